@@ -1,0 +1,13 @@
+// Comments at offsets of a text: what a store of comments means, and how comments are carried from place to place.
+mod agree;
+mod carrying;
+mod place;
+mod store;
+
+pub use agree::carry_both;
+pub use agree::same_list;
+pub use carrying::carry;
+pub use place::Move;
+pub use place::Place;
+pub use store::Side;
+pub use store::Store;
