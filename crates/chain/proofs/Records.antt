@@ -5,9 +5,9 @@ use native.Mathlib.Nat.{add-zero}
 use mathlib.Core.Path.{_≡_, refl, sym, ap, subst, _∙_}
 use mathlib.Core.List.{List, [], _∷_, map}
 use native.Mathlib.Omega.{arith}
-use lib.ListN.{length, getD, set, drop}
+use lib.ListN.{length, getD, set, drop, length-set}
 use Rattle.std.proofs.shelf.Lists.{length-map, getD-map, map-set, getD-default, getD-set-same, getD-set-other, getD-drop, drop-set-lt, drop-drop}
-use Rattle.chain.specs.Chain.{room, Slot, link-at, Chain, times, after, relinked}
+use Rattle.chain.specs.Chain.{room, Slot, link-at, Chain, times, after, relinked, Beyond}
 use Rattle.chain.proofs.Laws.{chain-push}
 
 -- a slot of the records is a slot of their links
@@ -94,3 +94,16 @@ pub made-links :
 made-links f g reads s [] n l h i q = absurd (omega arith)
 made-links f g reads s (x ∷ t) n l h i q =
     getD-map f (x ∷ t) i x 0 (omega arith) ∙ ap f (h .0 i x q) ∙ reads (getD s i x) (after n i)
+
+-- writes at slots leave the records that have none
+pub beyond-none : {X : Type 0} (s : List X) → Beyond s s
+beyond-none s = (refl, refl)
+
+pub beyond-set : {X : Type 0} (s : List X) (k : ℕ) (x : X) → Slot (length s) k → Beyond s (set s (k - 1) x)
+beyond-set s k x h = (length-set s (k - 1) x, drop-set-lt (room (length s)) s (k - 1) x (omega (arith, h .0, h .1)))
+
+pub beyond-more : {X : Type 0} (s t u : List X) → Beyond s t → Beyond t u → Beyond s u
+beyond-more {X} s t u a b = (
+  b .0 ∙ a .0,
+  subst (λ (n : ℕ). drop (room n) u ≡ drop (room n) t) (a .0) (b .1) ∙ a .1,
+)

@@ -11,6 +11,7 @@
 --   slots-from k n       the n slots from k on
 --   after n i            the link of the record at index i where a chain has all n slots in their order
 --   relinked f s k v d   the records s, that of slot k with the link v; d is any record
+--   Beyond s t           t has as many records as s, and those that have no slot are as they were
 --
 -- Assumes nothing.
 use Prim.Native.Nat.{ℕ, zero, suc, _+_, _-_, _≤_, _<_, min}
@@ -18,7 +19,7 @@ use mathlib.Core.Path.{_≡_}
 use mathlib.Core.Bool.{cond}
 use mathlib.Core.List.{List, [], _∷_}
 use lib.Dec.{eqb, ltb}
-use lib.ListN.{length, getD, set}
+use lib.ListN.{length, getD, set, drop}
 use Rattle.std.specs.declared.option.Option.{Option}
 use Rattle.std.specs.declared.option.Option.the-variants.{Some, None}
 
@@ -59,3 +60,6 @@ after n i = cond (ltb (i + 1) n) (i + 2) 0
 
 abbrev pub relinked : {X : Type 0} → (X → ℕ → X) → List X → ℕ → ℕ → X → List X
 relinked f s k v d = set s (k - 1) (f (getD s (k - 1) d) v)
+
+abbrev pub Beyond : {X : Type 0} → List X → List X → Type 0
+Beyond s t = (length t ≡ length s) × (drop (room (length s)) t ≡ drop (room (length s)) s)

@@ -2,9 +2,9 @@
 ghost use mathlib.Core.Path.{_≡_};
 ghost use mathlib.Core.List.{List, _∷_, map};
 ghost use Prim.Native.Nat.{ℕ, _-_, _<_};
-ghost use lib.ListN.{length, getD, drop};
+ghost use lib.ListN.{length, getD};
 ghost use Rattle.std.specs.Options.{Cases as BySome};
-ghost use Rattle.chain.specs.Chain.{room, Slot, link-at, Chain, Off, Drawn, slots-from, after, relinked};
+ghost use Rattle.chain.specs.Chain.{room, Slot, link-at, Chain, Off, Drawn, slots-from, after, relinked, Beyond};
 use crate::bound::Link;
 
 // The last slot of the records: those past 65,535 have none, and are never touched.
@@ -22,7 +22,7 @@ pub fn last_slot<T>(slots: &[T]) -> u16
 pub fn make<T: Link>(slots: &mut [T]) -> u16
     ensures chain { λ r. ⌜ Chain (map link (now (slots .exit))) r (slots-from 1 (room (length (now (slots .entry))))) ⌝ }
     ensures records { λ _. ⌜ ((i : ℕ) (d : T) → i < room (length (now (slots .entry))) → getD (now (slots .exit)) i d ≡ linked (getD (now (slots .entry)) i d) (after (room (length (now (slots .entry)))) i)) ⌝ }
-    ensures beyond { λ _. ⌜ drop (room (length (now (slots .entry)))) (now (slots .exit)) ≡ drop (room (length (now (slots .entry)))) (now (slots .entry)) ⌝ }
+    ensures beyond { λ _. ⌜ Beyond (now (slots .entry)) (now (slots .exit)) ⌝ }
 {
     let last = last_slot(slots);
     for i in 0..last {

@@ -41,7 +41,7 @@ returns-then-last-eq0 g c =
     record {
       chain = all-slots-none (map (g .T·Link .link) (c .loop-i .slots)) _ (sym (c .last-slot-last .ensures) ∙ c .if-last-eq0 .taken);
       records = w .0;
-      beyond = w .1;
+      beyond = (c .loop-i .kept .slots, w .1);
     }
 
 pub returns-else-last-eq0 : need.returns-else-last-eq0
@@ -52,5 +52,5 @@ returns-else-last-eq0 g c =
     record {
       chain = all-slots (map (g .T·Link .link) t) (room (length s)) (λ e. c .if-last-eq0 .left (c .last-slot-last .ensures ∙ e)) (rw (length-map, c .loop-i .kept .slots) (omega arith)) (made-links (g .T·Link .link) (g .T·Link .linked) (g .T·Link·met .reads) s t (room (length s)) (omega (arith, c .loop-i .kept .slots)) w);
       records = w .0;
-      beyond = w .1;
+      beyond = (c .loop-i .kept .slots, w .1);
     }

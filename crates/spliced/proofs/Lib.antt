@@ -1,0 +1,10 @@
+mod Reading
+mod Sums
+mod Steps
+mod Meaning
+mod Changes
+mod Records
+mod Whole
+mod Calls
+mod Adding
+mod Turns
