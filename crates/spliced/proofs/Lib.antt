@@ -8,3 +8,5 @@ mod Whole
 mod Calls
 mod Adding
 mod Turns
+mod Asking
+mod Fresh

@@ -198,3 +198,16 @@ begin notes notes′ heads heads′ fn fn′ fh fh′ held note side k c r none 
 
 pub taken-slot : (notes : List Note) (heads : List Head) (fn fh held note : ℕ) → held < min (room (length notes)) (room (length heads)) → note ≡ fn → ∥ Laid notes heads fn fh held ∥₁ → Slot (length notes) note
 taken-slot notes heads fn fh held note r e h = subst (λ (x : ℕ). Slot (length notes) x) (sym e) (next-note notes heads fn fh held r h)
+
+-- room for comments, after one more was held, and where none was
+pub less-room : (a b c d n m : ℕ) → (min (room a) (room b) - n ≡ 0 → ⊥) → m ≡ n + 1 → c ≡ a → d ≡ b → min (room a) (room b) - n ≡ (min (room c) (room d) - m) + 1
+less-room a b c d n m left e p q =
+    let r : min (room a) (room b) ≡ min (room c) (room d) = ap (λ (x : ℕ). min (room x) (room b)) (sym p) ∙ ap (λ (x : ℕ). min (room c) (room x)) (sym q) in
+    go (min (room a) (room b)) (min (room c) (room d)) left r
+  where
+    go : (x y : ℕ) → (x - n ≡ 0 → ⊥) → x ≡ y → x - n ≡ (y - m) + 1
+    go x y ne r = omega arith
+
+pub same-room : (a b c d n m : ℕ) → m ≡ n → c ≡ a → d ≡ b → min (room c) (room d) - m ≡ min (room a) (room b) - n
+same-room a b c d n m e p q =
+    ap (λ (x : ℕ). min (room x) (room d) - m) p ∙ ap (λ (x : ℕ). min (room a) (room x) - m) q ∙ ap (λ (x : ℕ). min (room a) (room b) - x) e

@@ -1,3 +1,4 @@
 pub mod Notes
 pub mod Heads
 pub mod Layout
+pub mod Store

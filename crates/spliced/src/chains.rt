@@ -1,8 +1,9 @@
 // The lists of comments as chains of notes, and how they grow and are joined.
 ghost use mathlib.Core.Path.{_≡_};
-ghost use Prim.Native.Nat.{ℕ, _+_, _<_, min};
+ghost use Prim.Native.Nat.{ℕ, _+_, _-_, _<_, min};
 ghost use lib.ListN.{length};
 ghost use denote.Ref.{name};
+ghost use Rattle.std.specs.Finite.{nth};
 ghost use Rattle.chain.specs.Chain.{room, Beyond};
 ghost use Rattle.comments.specs.declared.store.Side.{Side};
 ghost use Rattle.comments.specs.Lists.{added, shifted};
@@ -95,6 +96,36 @@ impl<'a> Chains<'a> {
             },
         );
         self.heads.give_back(source.head);
+    }
+
+    // How many comments more there is room for: each takes a note, and at most a head.
+    pub fn spare(&self) -> u16
+        ensures { λ r. ⌜ r ≡ min (room (length (now (now (self .entry) .notes .slots)))) (room (length (now (now (self .entry) .heads .slots)))) - now (self .entry) .held ⌝ }
+    {
+        let most = self.notes.last_slot().min(self.heads.last_slot());
+        most.saturating_sub(self.held)
+    }
+
+    // How many comments the list on a side at an offset has.
+    pub fn count(&self, side: Side, offset: u32) -> usize
+        ensures { λ r. ⌜ (Laid (now (now (self .entry) .notes .slots)) (now (now (self .entry) .heads .slots)) (now (self .entry) .notes .free) (now (self .entry) .heads .free) (now (self .entry) .held)
+            → r ≡ length (listed (now (now (self .entry) .notes .slots)) (now (now (self .entry) .heads .slots)) side offset)) ⌝ }
+    {
+        match self.heads.find(side, offset) {
+            Some(found) => self.notes.count(found.list.first),
+            None => 0,
+        }
+    }
+
+    // The comment at a rank of that list.
+    pub fn comment(&self, side: Side, offset: u32, rank: usize) -> Option<u32>
+        ensures { λ r. ⌜ (Laid (now (now (self .entry) .notes .slots)) (now (now (self .entry) .heads .slots)) (now (self .entry) .notes .free) (now (self .entry) .heads .free) (now (self .entry) .held)
+            → r ≡ nth (listed (now (now (self .entry) .notes .slots)) (now (now (self .entry) .heads .slots)) side offset) rank) ⌝ }
+    {
+        match self.heads.find(side, offset) {
+            Some(found) => self.notes.comment(found.list.first, rank),
+            None => None,
+        }
     }
 }
 

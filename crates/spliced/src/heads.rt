@@ -143,6 +143,12 @@ impl<'a> Heads<'a> {
         Heads { slots, free }
     }
 
+    pub fn last_slot(&self) -> u16
+        ensures { λ r. ⌜ r ≡ room (length (now (now (self .entry) .slots))) ⌝ }
+    {
+        chain::last_slot(self.slots)
+    }
+
     // The record of the list on a side at an offset.
     pub fn find(&self, side: Side, offset: u32) -> Option<Found>
         ensures { λ r. ⌜ BySome r

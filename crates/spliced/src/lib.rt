@@ -2,6 +2,11 @@
 mod chains;
 mod heads;
 mod notes;
+mod store;
 
 pub use heads::Head;
+pub use heads::HeadLink;
 pub use notes::Note;
+pub use notes::NoteLink;
+pub use store::Spliced;
+pub use store::SplicedStore;

@@ -60,6 +60,26 @@ impl<'a> Notes<'a> {
         Notes { slots, free }
     }
 
+    pub fn last_slot(&self) -> u16
+        ensures { λ r. ⌜ r ≡ room (length (now (now (self .entry) .slots))) ⌝ }
+    {
+        chain::last_slot(self.slots)
+    }
+
+    // How many comments the list that begins at `first` has.
+    pub fn count(&self, first: u16) -> usize
+        ensures { λ r. ⌜ ((ks : List ℕ) → Chain (links (now (now (self .entry) .slots))) first ks → r ≡ length ks) ⌝ }
+    {
+        usize::from(chain::count(self.slots, first))
+    }
+
+    // The comment at a rank of that list; none past its end.
+    pub fn comment(&self, first: u16, rank: usize) -> Option<u32>
+        ensures { λ r. ⌜ ((ks : List ℕ) → Chain (links (now (now (self .entry) .slots))) first ks → r ≡ nth (map (comment-at (comments (now (now (self .entry) .slots)))) ks) rank) ⌝ }
+    {
+        comment_at(self.slots, first, rank)
+    }
+
     // Takes an unused record for a comment that ends its list.
     pub fn draw(&mut self, comment: u32) -> u16
         requires { ⌜ Slot (length (now (now self .slots))) (now self .free) ⌝ }
@@ -109,7 +129,7 @@ fn comment_of(slots: &[Note], slot: u16) -> Option<u32>
 }
 
 // The comment at a rank of the list that begins at `first`; none past its end.
-pub fn comment_at(slots: &[Note], first: u16, rank: usize) -> Option<u32>
+fn comment_at(slots: &[Note], first: u16, rank: usize) -> Option<u32>
     ensures { λ r. ⌜ ((ks : List ℕ) → Chain (links (now (slots .entry))) first ks → r ≡ nth (map (comment-at (comments (now (slots .entry)))) ks) rank) ⌝ }
 {
     let mut at = first;
