@@ -1,1 +1,3 @@
 mod Passes
+mod Ranks
+mod Pushed

@@ -1,8 +1,9 @@
 // What a pass over the entries of a register finds or changes.
 ghost use mathlib.Core.Path.{_≡_};
-ghost use mathlib.Core.List.{map};
+ghost use mathlib.Core.List.{map, _++_};
+ghost use lib.ListN.{length, take, drop};
 ghost use mathlib.Core.Bool.{true};
-ghost use Prim.Native.Nat.{_+_, _<_, _^_};
+ghost use Prim.Native.Nat.{_+_, _<_, _≤_, _^_};
 ghost use Rattle.std.specs.shelf.Lists.{All, countBy};
 ghost use Rattle.register.specs.Listing.{here, ranked, comment-at, moved-to};
 ghost use Rattle.comments.specs.Lists.{same};
@@ -74,12 +75,21 @@ fn rejoined(entry: Entry, joining: Joining) -> Entry
     }
 }
 
-// Puts two lists together.
-pub fn join(entries: &mut [Entry], joining: Joining)
+// Puts two lists together, all of whose entries are given.
+fn rejoin_each(entries: &mut [Entry], joining: Joining)
     requires { ⌜ All (λ e. here (joining .side) (joining .second) e ≡ true → e .rank + joining .ahead < 2 ^ 64) (now entries) ⌝ }
     ensures { λ _. ⌜ now (entries .exit) ≡ map (moved-to (joining .side) (joining .first) (joining .second) (joining .to) (joining .ahead)) (now (entries .entry)) ⌝ }
 {
     for e in entries.iter_mut() {
         *e = rejoined(*e, joining);
     }
+}
+
+// The same where only the first records are entries: those behind them stay.
+pub fn join(slots: &mut [Entry], used: usize, joining: Joining)
+    requires inside { ⌜ used ≤ length (now slots) ⌝ }
+    requires fitting { ⌜ All (λ e. here (joining .side) (joining .second) e ≡ true → e .rank + joining .ahead < 2 ^ 64) (take used (now slots)) ⌝ }
+    ensures { λ _. ⌜ now (slots .exit) ≡ map (moved-to (joining .side) (joining .first) (joining .second) (joining .to) (joining .ahead)) (take used (now (slots .entry))) ++ drop used (now (slots .entry)) ⌝ }
+{
+    rejoin_each(&mut slots[..used], joining);
 }

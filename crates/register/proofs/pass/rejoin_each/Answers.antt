@@ -6,7 +6,7 @@ use Rattle.register.specs.declared.entry.Entry.{Entry}
 use Rattle.register.specs.declared.pass.Joining.{Joining}
 use Rattle.register.specs.Listing.{here, moved-to}
 use Rattle.register.proofs.Passes.{not-reached, written-more, written-all}
-use Rattle.register.proofs.pass.join.Needs as need
+use Rattle.register.proofs.pass.rejoin_each.Needs as need
 
 abbrev by : Joining → Entry → Entry
 by j = moved-to (j .side) (j .first) (j .second) (j .to) (j .ahead)

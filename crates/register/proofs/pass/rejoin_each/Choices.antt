@@ -2,7 +2,7 @@ use mathlib.Core.Path.{_≡_}
 use mathlib.Core.List.{map, _++_}
 use lib.ListN.{take, drop}
 use Rattle.register.specs.Listing.{moved-to}
-use Rattle.register.proofs.pass.join.Given as given
+use Rattle.register.proofs.pass.rejoin_each.Given as given
 
 abbrev pub Inv-loop-e : given.InvT-loop-e
 Inv-loop-e l =
