@@ -1,3 +1,4 @@
 mod Passes
 mod Ranks
 mod Pushed
+mod Joined

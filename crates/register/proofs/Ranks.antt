@@ -1,16 +1,20 @@
 -- Counting entries, and reading lists off them by their ranks.
 use Prim.Native.Nat.{ℕ, zero, suc, _+_, _≤_, _<_}
 use mathlib.Core.Path.{_≡_, refl, sym, ap, subst, _∙_}
-use mathlib.Core.Logic.{_⊎_, ⊎-elim}
-use mathlib.Core.Bool.{Bool, true, false, cond, _&&_, _||_}
+use mathlib.Core.Logic.{⊎-elim}
+use mathlib.Core.Bool.{true}
 use mathlib.Core.List.{List, [], _∷_, _++_, map}
 use native.Mathlib.Omega.{arith}
 use native.Mathlib.Nat.{add-zero, zero-add}
 use lib.Dec.{eqb, ltb}
-use lib.ListN.{length}
-use Rattle.std.proofs.shelf.Tests.{cond-true, cond-false, cases-bool, cases-lt, and-parts, and-from, eqb-true, eq-eqb, lt-ltb, le-ltb}
-use Rattle.std.proofs.shelf.Ways.{tells}
+use Rattle.std.proofs.shelf.Tests.{cond-true, cond-false, cases-lt, and-parts, and-from, eqb-true, eq-eqb, lt-ltb, le-ltb}
+use Rattle.std.proofs.shelf.Counted.{length-map-counting, getD-map-counting}
+use Rattle.std.proofs.shelf.Maps.{nth-getD, nth-past}
+use Rattle.std.specs.Finite.{nth}
 use Rattle.std.specs.Iters.{counting}
+use Rattle.std.specs.Options.{Cases as BySome}
+use Rattle.std.specs.declared.option.Option.{Option}
+use Rattle.std.specs.declared.option.Option.the-variants.{Some, None}
 use Rattle.std.specs.shelf.Lists.{All, countBy}
 use Rattle.comments.specs.declared.store.Side.{Side}
 use Rattle.comments.specs.declared.store.Side.the-variants.{Leading, Trailing}
@@ -84,3 +88,23 @@ map-split f a (suc m) n =
     let sum : suc m + n ≡ suc (m + n) = omega arith in
     let past : a + 1 + m ≡ a + suc m = omega arith in
     ap (λ (x : ℕ). map f (counting a x)) sum ∙ ap (λ xs. f a ∷ xs) (map-split f (a + 1) m n) ∙ ap (λ (x : ℕ). (f a ∷ map f (counting (a + 1) m)) ++ map f (counting x n)) past
+
+-- what is found by its rank is what the list has there
+pub nth-listing :
+    (es : List Entry)
+    (side : Side)
+    (k r : ℕ)
+    (o : Option ℕ)
+    → Sound es
+    → BySome o (countBy (ranked side k r) es ≡ 0) (λ c. (0 < countBy (ranked side k r) es) × (c ≡ comment-at es side k r))
+    → o ≡ nth (listing es side k) r
+nth-listing es side k r (Some c) h p =
+    let l = taken-below es side k r h (p .0) in
+    let n = length-map-counting (comment-at es side k) 0 (countBy (here side k) es) in
+    ap Some (p .1)
+    ∙ sym (nth-getD (listing es side k) r 0 (omega arith) ∙ ap Some (getD-map-counting (comment-at es side k) 0 (countBy (here side k) es) r r 0 l (omega arith)))
+nth-listing es side k r None h p =
+    ⊎-elim
+    (λ l. absurd (omega (arith, taken-once es side k r h l)))
+    (λ l. sym (nth-past (listing es side k) r (omega (arith, length-map-counting (comment-at es side k) 0 (countBy (here side k) es)))))
+    (cases-lt r (countBy (here side k) es))

@@ -10,11 +10,11 @@ ghost use Rattle.comments.specs.declared.store.Side.{Side};
 ghost use Rattle.comments.specs.Lists.{added};
 ghost use Rattle.register.specs.declared.entry.Entry.{Entry};
 ghost use Rattle.register.specs.Held.{lists-of, spare-of};
-use comments::Side;
-use refusal::Refusal;
 use crate::entry::Entry;
 use crate::register::Entries;
 use crate::register::Register;
+use comments::Side;
+use refusal::Refusal;
 
 impl<'a> Register<'a> {
     // A register without comments. The records stay as they are until comments are added.
@@ -24,7 +24,9 @@ impl<'a> Register<'a> {
         ensures records { λ r. ⌜ now (r .entries .slots) ≡ now (slots .entry) ⌝ }
         ensures lender { λ r. ⌜ name (r .entries .slots) ≡ name (slots .entry) ⌝ }
     {
-        Register { entries: Entries { slots, used: 0 } }
+        Register {
+            entries: Entries { slots, used: 0 },
+        }
     }
 
     // For how many more comments there are records.
@@ -47,7 +49,12 @@ impl<'a> Register<'a> {
             return Err(Refusal::TooFewRecords { needed: 1 });
         }
         let rank = self.entries.count(side, offset);
-        self.entries.push(Entry { comment, side, offset, rank });
+        self.entries.push(Entry {
+            comment,
+            side,
+            offset,
+            rank,
+        });
         Ok(())
     }
 }

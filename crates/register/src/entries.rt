@@ -2,20 +2,20 @@
 ghost use mathlib.Core.Path.{_≡_};
 ghost use mathlib.Core.List.{map, _++_};
 ghost use mathlib.Core.Bool.{true};
-ghost use Prim.Native.Nat.{_+_, _^_, _<_, _≤_};
-ghost use lib.ListN.{length, set, take, drop};
+ghost use Prim.Native.Nat.{_+_, _<_, _≤_};
+ghost use lib.ListN.{length, set, drop};
 ghost use denote.Ref.{name};
 ghost use Rattle.std.specs.shelf.Lists.{All, countBy};
 ghost use Rattle.std.specs.Options.{Cases as BySome};
 ghost use Rattle.register.specs.Listing.{here, ranked, comment-at, moved-to};
 ghost use Rattle.register.specs.Held.{entries-of};
-use comments::Side;
 use crate::entry::Entry;
 use crate::pass::Joining;
 use crate::pass::comment_in;
 use crate::pass::count_in;
 use crate::pass::join;
 use crate::register::Entries;
+use comments::Side;
 
 impl<'a> Entries<'a> {
     // How many entries the list on a side at an offset has.
@@ -39,7 +39,7 @@ impl<'a> Entries<'a> {
     // Puts two lists together.
     pub(crate) fn join(&mut self, joining: Joining)
         requires inside { ⌜ now self .used ≤ length (now (now self .slots)) ⌝ }
-        requires fitting { ⌜ All (λ e. here (joining .side) (joining .second) e ≡ true → e .rank + joining .ahead < 2 ^ 64) (entries-of (now self)) ⌝ }
+        requires fitting { ⌜ All (λ e. here (joining .side) (joining .second) e ≡ true → e .rank + joining .ahead < length (entries-of (now self))) (entries-of (now self)) ⌝ }
         ensures used { λ _. ⌜ now (self .exit) .used ≡ now (self .entry) .used ⌝ }
         ensures slots { λ _. ⌜ now (now (self .exit) .slots) ≡ map (moved-to (joining .side) (joining .first) (joining .second) (joining .to) (joining .ahead)) (entries-of (now (self .entry))) ++ drop (now (self .entry) .used) (now (now (self .entry) .slots)) ⌝ }
         ensures lender { λ _. ⌜ name (now (self .exit) .slots) ≡ name (now (self .entry) .slots) ⌝ }

@@ -4,6 +4,8 @@ mod entries;
 mod entry;
 mod pass;
 mod register;
+mod store;
 
 pub use entry::Entry;
 pub use register::Register;
+pub use store::RegisterStore;

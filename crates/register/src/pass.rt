@@ -8,14 +8,17 @@ ghost use Rattle.std.specs.shelf.Lists.{All, countBy};
 ghost use Rattle.register.specs.Listing.{here, ranked, comment-at, moved-to};
 ghost use Rattle.comments.specs.Lists.{same};
 ghost use Rattle.std.specs.Options.{Cases as BySome};
-use comments::Side;
 use crate::entry::Entry;
+use comments::Side;
 
 // Whether two sides are one.
 fn same_side(a: Side, b: Side) -> bool
     ensures { λ r. ⌜ r ≡ same a b ⌝ }
 {
-    matches!((a, b), (Side::Leading, Side::Leading) | (Side::Trailing, Side::Trailing))
+    matches!(
+        (a, b),
+        (Side::Leading, Side::Leading) | (Side::Trailing, Side::Trailing)
+    )
 }
 
 // Whether an entry stands in the list on a side at an offset.
@@ -67,9 +70,16 @@ fn rejoined(entry: Entry, joining: Joining) -> Entry
     ensures { λ r. ⌜ r ≡ moved-to (joining .side) (joining .first) (joining .second) (joining .to) (joining .ahead) entry ⌝ }
 {
     if is_in(entry, joining.side, joining.second) {
-        Entry { offset: joining.to, rank: entry.rank + joining.ahead, ..entry }
+        Entry {
+            offset: joining.to,
+            rank: entry.rank + joining.ahead,
+            ..entry
+        }
     } else if is_in(entry, joining.side, joining.first) {
-        Entry { offset: joining.to, ..entry }
+        Entry {
+            offset: joining.to,
+            ..entry
+        }
     } else {
         entry
     }
@@ -77,7 +87,7 @@ fn rejoined(entry: Entry, joining: Joining) -> Entry
 
 // Puts two lists together, all of whose entries are given.
 fn rejoin_each(entries: &mut [Entry], joining: Joining)
-    requires { ⌜ All (λ e. here (joining .side) (joining .second) e ≡ true → e .rank + joining .ahead < 2 ^ 64) (now entries) ⌝ }
+    requires { ⌜ All (λ e. here (joining .side) (joining .second) e ≡ true → e .rank + joining .ahead < length (now entries)) (now entries) ⌝ }
     ensures { λ _. ⌜ now (entries .exit) ≡ map (moved-to (joining .side) (joining .first) (joining .second) (joining .to) (joining .ahead)) (now (entries .entry)) ⌝ }
 {
     for e in entries.iter_mut() {
@@ -88,7 +98,7 @@ fn rejoin_each(entries: &mut [Entry], joining: Joining)
 // The same where only the first records are entries: those behind them stay.
 pub fn join(slots: &mut [Entry], used: usize, joining: Joining)
     requires inside { ⌜ used ≤ length (now slots) ⌝ }
-    requires fitting { ⌜ All (λ e. here (joining .side) (joining .second) e ≡ true → e .rank + joining .ahead < 2 ^ 64) (take used (now slots)) ⌝ }
+    requires fitting { ⌜ All (λ e. here (joining .side) (joining .second) e ≡ true → e .rank + joining .ahead < length (take used (now slots))) (take used (now slots)) ⌝ }
     ensures { λ _. ⌜ now (slots .exit) ≡ map (moved-to (joining .side) (joining .first) (joining .second) (joining .to) (joining .ahead)) (take used (now (slots .entry))) ++ drop used (now (slots .entry)) ⌝ }
 {
     rejoin_each(&mut slots[..used], joining);

@@ -1,8 +1,5 @@
-use mathlib.Core.Path.{_≡_, sym, _∙_}
-use mathlib.Core.Bool.{false}
+use mathlib.Core.Path.{sym, _∙_}
 use Rattle.std.proofs.shelf.Tests.{and-from, and-left, and-right, eq-eqb, ne-eqb}
-use Rattle.register.specs.Listing.{ranked}
-use lib.ListN.{getD}
 use Rattle.register.proofs.Passes.{left-more, left-found, left-none}
 use Rattle.register.proofs.pass.comment_in.Needs as need
 use Rattle.register.proofs.pass.comment_in.Needs.{else-is-in·by·then-is-in·else-e-rank, else-is-in·by·else-is-in}

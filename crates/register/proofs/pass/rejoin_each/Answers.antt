@@ -1,7 +1,10 @@
 use mathlib.Core.Path.{_≡_, sym, subst}
 use mathlib.Core.Bool.{true}
-use Prim.Native.Nat.{_+_, _<_, _^_}
+use Prim.Native.Nat.{ℕ, _+_, _<_}
+use native.Mathlib.Omega.{arith}
+use lib.ListN.{length, getD}
 use Rattle.std.proofs.shelf.Elements.{all-getD}
+use Rattle.comments.specs.declared.store.Side.the-variants.{Leading}
 use Rattle.register.specs.declared.entry.Entry.{Entry}
 use Rattle.register.specs.declared.pass.Joining.{Joining}
 use Rattle.register.specs.Listing.{here, moved-to}
@@ -11,13 +14,21 @@ use Rattle.register.proofs.pass.rejoin_each.Needs as need
 abbrev by : Joining → Entry → Entry
 by j = moved-to (j .side) (j .first) (j .second) (j .to) (j .ahead)
 
-abbrev Fitting : Joining → Entry → Type 0
-Fitting j e = here (j .side) (j .second) e ≡ true → e .rank + j .ahead < 2 ^ 64
+abbrev Fitting : Joining → ℕ → Entry → Type 0
+Fitting j limit e = here (j .side) (j .second) e ≡ true → e .rank + j .ahead < limit
+
+-- what a pass reads where there is no entry
+abbrev blank : Entry
+blank = record { comment = 0; side = Leading; offset = 0; rank = 0 }
 
 pub rejoined-requires : need.rejoined-requires
-rejoined-requires c κs =
-    subst (Fitting (c .args .joining)) (sym (not-reached (by (c .args .joining)) (c .args .entries .now) (c .loop-e .entries) (c .loop-e .e-index) _ (c .loop-e-test .taken) (c .loop-e .inv)))
-    (all-getD (Fitting (c .args .joining)) (c .args .entries .now) (c .loop-e .e-index) _ (c .loop-e-test .taken) (c .pre))
+rejoined-requires c κs second =
+    let n = length (c .args .entries .now) in
+    let h : Fitting (c .args .joining) n (getD (c .loop-e .entries) (c .loop-e .e-index) blank) =
+    subst (Fitting (c .args .joining) n) (sym (not-reached (by (c .args .joining)) (c .args .entries .now) (c .loop-e .entries) (c .loop-e .e-index) blank (c .loop-e-test .taken) (c .loop-e .inv)))
+    (all-getD (Fitting (c .args .joining) n) (c .args .entries .now) (c .loop-e .e-index) blank (c .loop-e-test .taken) (c .pre))
+    in
+    omega (arith, h second)
 
 pub loop-e-again : need.loop-e-again
 loop-e-again c =

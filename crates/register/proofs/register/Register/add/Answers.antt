@@ -1,10 +1,8 @@
-use Prim.Native.Nat.{ℕ, _<_}
-use mathlib.Core.Path.{_≡_, sym, ap, subst, _∙_}
+use Prim.Native.Nat.{_<_}
+use mathlib.Core.Path.{sym, ap, subst, _∙_}
 use mathlib.Core.List.{List}
 use native.Mathlib.Omega.{arith}
 use lib.ListN.{length}
-use Rattle.comments.specs.declared.store.Side.{Side}
-use Rattle.comments.specs.Lists.{added}
 use Rattle.register.specs.declared.entry.Entry.{Entry}
 use Rattle.register.specs.Listing.{listing, Sound}
 use Rattle.register.specs.Held.{entries-of}
