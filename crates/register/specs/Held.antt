@@ -11,8 +11,8 @@ use mathlib.Core.List.{List}
 use lib.ListN.{length, take, drop}
 use Rattle.comments.specs.Lists.{Lists}
 use Rattle.register.specs.declared.entry.Entry.{Entry}
-use Rattle.register.specs.declared.register.Entries.{Entries}
-use Rattle.register.specs.declared.register.Register.{Register}
+use Rattle.register.specs.declared.records.Entries.{Entries}
+use Rattle.register.specs.declared.records.Register.{Register}
 use Rattle.register.specs.Listing.{listing}
 
 abbrev pub entries-of : Entries → List Entry

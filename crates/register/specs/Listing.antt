@@ -6,22 +6,17 @@
 --   listing es side k        that list: the comments of its entries, in the order of their ranks
 --   Sound es                 in each list, every rank below the number of its entries is that of exactly one entry, and
 --                            no other rank is that of any
---   moved-to side first second to ahead e
---                            the entry e after the lists at `first` and `second`, of which the first has `ahead` entries,
---                            have become one list at `to`
---   together f side first second to
---                            the lists f after those at `first` and `second` have become one list at `to`
 --
 -- Assumes nothing.
-use Prim.Native.Nat.{ℕ, _+_}
+use Prim.Native.Nat.{ℕ}
 use mathlib.Core.Path.{_≡_}
-use mathlib.Core.Bool.{Bool, cond, _&&_, _||_}
-use mathlib.Core.List.{List, [], _∷_, _++_, map}
+use mathlib.Core.Bool.{Bool, cond, _&&_}
+use mathlib.Core.List.{List, [], _∷_, map}
 use lib.Dec.{eqb, ltb}
 use Rattle.std.specs.Iters.{counting}
 use Rattle.std.specs.shelf.Lists.{countBy}
 use Rattle.comments.specs.declared.store.Side.{Side}
-use Rattle.comments.specs.Lists.{Lists, same}
+use Rattle.comments.specs.Lists.{same}
 use Rattle.register.specs.declared.entry.Entry.{Entry}
 
 abbrev pub here : Side → ℕ → Entry → Bool
@@ -39,16 +34,3 @@ listing es side k = map (comment-at es side k) (counting 0 (countBy (here side k
 
 abbrev pub Sound : List Entry → Type 0
 Sound es = (side : Side) (k r : ℕ) → countBy (ranked side k r) es ≡ cond (ltb r (countBy (here side k) es)) 1 0
-
-abbrev pub moved-to : Side → ℕ → ℕ → ℕ → ℕ → Entry → Entry
-moved-to side first second to ahead e =
-    record {
-      comment = e .comment;
-      side = e .side;
-      offset = cond (here side first e || here side second e) to (e .offset);
-      rank = cond (here side second e) (e .rank + ahead) (e .rank);
-    }
-
-abbrev pub together : Lists → Side → ℕ → ℕ → ℕ → Lists
-together f side first second to at k =
-    cond (same at side) (cond (eqb k to) (f side first ++ f side second) (cond (eqb k first || eqb k second) [] (f at k))) (f at k)

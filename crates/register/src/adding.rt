@@ -11,8 +11,8 @@ ghost use Rattle.comments.specs.Lists.{added};
 ghost use Rattle.register.specs.declared.entry.Entry.{Entry};
 ghost use Rattle.register.specs.Held.{lists-of, spare-of};
 use crate::entry::Entry;
-use crate::register::Entries;
-use crate::register::Register;
+use crate::records::Entries;
+use crate::records::Register;
 use comments::Side;
 use refusal::Refusal;
 

@@ -7,14 +7,15 @@ ghost use lib.ListN.{length, set, drop};
 ghost use denote.Ref.{name};
 ghost use Rattle.std.specs.shelf.Lists.{All, countBy};
 ghost use Rattle.std.specs.Options.{Cases as BySome};
-ghost use Rattle.register.specs.Listing.{here, ranked, comment-at, moved-to};
+ghost use Rattle.register.specs.Listing.{here, ranked, comment-at};
+ghost use Rattle.register.specs.Joins.{moved-to};
 ghost use Rattle.register.specs.Held.{entries-of};
 use crate::entry::Entry;
-use crate::pass::Joining;
+use crate::joining::Joining;
+use crate::joining::join;
 use crate::pass::comment_in;
 use crate::pass::count_in;
-use crate::pass::join;
-use crate::register::Entries;
+use crate::records::Entries;
 use comments::Side;
 
 impl<'a> Entries<'a> {

@@ -1,4 +1,7 @@
 // The record of one comment.
+ghost use mathlib.Core.Path.{_≡_};
+ghost use Rattle.comments.specs.Lists.{same};
+ghost use Rattle.register.specs.Listing.{here};
 use comments::Side;
 
 // One comment: the list that it stands in, by its side and offset, and its rank in it, which counts from 0.
@@ -8,4 +11,23 @@ pub struct Entry {
     pub side: Side,
     pub offset: u32,
     pub rank: usize,
+}
+
+impl Entry {
+    // Whether the entry stands in the list on a side at an offset.
+    pub(crate) fn is_in(self, side: Side, offset: u32) -> bool
+        ensures { λ r. ⌜ r ≡ here side offset self ⌝ }
+    {
+        same_side(self.side, side) && self.offset == offset
+    }
+}
+
+// Whether two sides are one.
+fn same_side(a: Side, b: Side) -> bool
+    ensures { λ r. ⌜ r ≡ same a b ⌝ }
+{
+    matches!(
+        (a, b),
+        (Side::Leading, Side::Leading) | (Side::Trailing, Side::Trailing)
+    )
 }

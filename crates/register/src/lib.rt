@@ -2,10 +2,11 @@
 mod adding;
 mod entries;
 mod entry;
+mod joining;
 mod pass;
-mod register;
+mod records;
 mod store;
 
 pub use entry::Entry;
-pub use register::Register;
+pub use records::Register;
 pub use store::RegisterStore;

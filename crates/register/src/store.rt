@@ -6,10 +6,10 @@ ghost use denote.Ref.{name};
 ghost use Rattle.comments.specs.declared.store.Side.{Side};
 ghost use Rattle.comments.specs.declared.store.Side.the-variants.{Leading, Trailing};
 ghost use Rattle.comments.specs.Lists.{shifted};
-ghost use Rattle.register.specs.Listing.{together};
+ghost use Rattle.register.specs.Joins.{together};
 ghost use Rattle.register.specs.Held.{lists-of, beyond};
-use crate::pass::Joining;
-use crate::register::Register;
+use crate::joining::Joining;
+use crate::records::Register;
 use comments::Side;
 use comments::Store;
 

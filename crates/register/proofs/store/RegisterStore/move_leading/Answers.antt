@@ -1,6 +1,6 @@
 use mathlib.Core.Path.{_∙_}
 use Rattle.register.specs.Held.{lists-of}
-use Rattle.register.proofs.Joined.{led}
+use Rattle.register.proofs.Moves.{led}
 use Rattle.register.proofs.store.RegisterStore.move_leading.Needs as need
 
 pub returns-then-from-to : need.returns-then-from-to

@@ -1,6 +1,6 @@
 use mathlib.Core.Path.{_∙_}
 use Rattle.register.specs.Held.{lists-of}
-use Rattle.register.proofs.Joined.{trailed}
+use Rattle.register.proofs.Moves.{trailed}
 use Rattle.register.proofs.store.RegisterStore.move_trailing.Needs as need
 
 pub returns-then-from-to : need.returns-then-from-to

@@ -6,10 +6,11 @@ use lib.ListN.{length, getD}
 use Rattle.std.proofs.shelf.Elements.{all-getD}
 use Rattle.comments.specs.declared.store.Side.the-variants.{Leading}
 use Rattle.register.specs.declared.entry.Entry.{Entry}
-use Rattle.register.specs.declared.pass.Joining.{Joining}
-use Rattle.register.specs.Listing.{here, moved-to}
+use Rattle.register.specs.declared.joining.Joining.{Joining}
+use Rattle.register.specs.Listing.{here}
+use Rattle.register.specs.Joins.{moved-to}
 use Rattle.register.proofs.Passes.{not-reached, written-more, written-all}
-use Rattle.register.proofs.pass.rejoin_each.Needs as need
+use Rattle.register.proofs.joining.rejoin_each.Needs as need
 
 abbrev by : Joining → Entry → Entry
 by j = moved-to (j .side) (j .first) (j .second) (j .to) (j .ahead)

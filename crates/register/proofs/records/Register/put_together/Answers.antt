@@ -1,10 +1,11 @@
 use mathlib.Core.Path.{sym, ap, subst, _∙_}
 use mathlib.Core.List.{List}
 use Rattle.register.specs.declared.entry.Entry.{Entry}
-use Rattle.register.specs.Listing.{listing, moved-to, Sound}
+use Rattle.register.specs.Listing.{listing, Sound}
+use Rattle.register.specs.Joins.{moved-to}
 use Rattle.register.specs.Held.{entries-of}
 use Rattle.register.proofs.Joined.{Ready, joined-sound, joined-lists, joined-fits, joined-inside, joined-entries, joined-beyond}
-use Rattle.register.proofs.register.Register.put_together.Needs as need
+use Rattle.register.proofs.records.Register.put_together.Needs as need
 
 pub join-requires : need.join-requires
 join-requires c κs =

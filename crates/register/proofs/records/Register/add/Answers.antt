@@ -7,7 +7,7 @@ use Rattle.register.specs.declared.entry.Entry.{Entry}
 use Rattle.register.specs.Listing.{listing, Sound}
 use Rattle.register.specs.Held.{entries-of}
 use Rattle.register.proofs.Pushed.{sound-push, listing-push, pushed-entries, pushed-others, pushed-length}
-use Rattle.register.proofs.register.Register.add.Needs as need
+use Rattle.register.proofs.records.Register.add.Needs as need
 
 pub ghost-self : need.ghost-self
 ghost-self c =

@@ -1,8 +1,8 @@
 use mathlib.Core.Path.{_≡_}
 use mathlib.Core.List.{map, _++_}
 use lib.ListN.{take, drop}
-use Rattle.register.specs.Listing.{moved-to}
-use Rattle.register.proofs.pass.rejoin_each.Given as given
+use Rattle.register.specs.Joins.{moved-to}
+use Rattle.register.proofs.joining.rejoin_each.Given as given
 
 abbrev pub Inv-loop-e : given.InvT-loop-e
 Inv-loop-e l =
