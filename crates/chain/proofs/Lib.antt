@@ -1,4 +1,4 @@
 pub mod Counting
 pub mod Laws
 pub mod Records
-mod Walks
+pub mod Walks

@@ -48,6 +48,11 @@ given-back f g reads (x ∷ s) t h k ks sl off e c =
     subst (λ (m : List ℕ). Chain m k (k ∷ ks)) (sym (ap (map f) (e x) ∙ links-relinked f g reads (x ∷ s) k h x))
     (chain-push (map f (x ∷ s)) h k ks (slot-links f (x ∷ s) k sl) off c)
 
+-- a write at i leaves what is behind it
+pub rest-kept : {X : Type 0} (i : ℕ) (s t : List X) (y : X) → drop i t ≡ drop i s → drop (i + 1) (set t i y) ≡ drop (i + 1) s
+rest-kept i s t y e =
+    drop-set-lt (i + 1) t i y (omega arith) ∙ sym (drop-drop 1 i t) ∙ ap (drop 1) e ∙ drop-drop 1 i s
+
 -- what `make` has done after i records: those before i are linked, those from i on are as they were
 abbrev pub Made : {X : Type 0} → (X → ℕ → X) → List X → ℕ → ℕ → List X → Type 0
 Made {X} g s n i t = ((k : ℕ) (d : X) → k < i → getD t k d ≡ g (getD s k d) (after n k)) × (drop i t ≡ drop i s)
@@ -59,7 +64,7 @@ module _ {X : Type 0} (g : X → ℕ → X) (s : List X) (n : ℕ) where
   pub made-more : (i : ℕ) (t : List X) (x y : X) → i < length t → length t ≡ length s → y ≡ g (getD t i x) (after n i) → Made g s n i t → Made g s n (i + 1) (set t i y)
   made-more i t x y l same e h = (
     (λ k d q. linked k q d),
-    drop-set-lt (i + 1) t i y (omega arith) ∙ sym (drop-drop 1 i t) ∙ ap (drop 1) (h .1) ∙ drop-drop 1 i s,
+    rest-kept i s t y (h .1),
   )
     where
       here : (d : X) → getD t i d ≡ getD s i d

@@ -60,28 +60,30 @@ module _ (side : Side) (c : ℕ) (f : ℕ → List ℕ) (a b : ℕ) where
   counted j xs e = ap (times c) e
 
   went : (k : ℕ) → (a ≡ b → ⊥) → k ≡ a → times c (f k) ≡ 1 → ((j : ℕ) → (j ≡ k → ⊥) → times c (f j) ≡ 0) → Once c (moved side f a b)
-  went k ne e one none =
-      (
-        b,
-        counted b (join side (f a) (f b)) (moved-to side f a b b ne refl)
+  went k ne e one none = (
+    b,
+    counted b (join side (f a) (f b)) (moved-to side f a b b ne refl)
         ∙ omega (arith, times-join side c (f a) (f b), ap (λ (x : ℕ). times c (f x)) e, none b (λ d. ne (sym e ∙ sym d))),
-        λ j nb. ⊎-elim
+    λ j nb. ⊎-elim
         (λ ja. counted j [] (moved-from side f a b j ne ja))
         (λ na. counted j (f j) (moved-other side f a b j na nb) ∙ none j (λ d. na (d ∙ e)))
-        (cases-eq j a)
-      )
+        (cases-eq j a),
+  )
 
   stays : (k : ℕ) → (a ≡ b → ⊥) → (k ≡ a → ⊥) → times c (f k) ≡ 1 → ((j : ℕ) → (j ≡ k → ⊥) → times c (f j) ≡ 0) → Once c (moved side f a b)
   stays k ne na one none = (k, ⊎-elim here-to here-else (cases-eq k b), others)
     where
       empty : times c (f a) ≡ 0
       empty = none a (λ d. na (sym d))
+
       here-to : k ≡ b → times c (moved side f a b k) ≡ 1
       here-to e =
           counted k (join side (f a) (f b)) (moved-to side f a b k ne e)
           ∙ omega (arith, times-join side c (f a) (f b), ap (λ (x : ℕ). times c (f x)) e, empty)
+
       here-else : (k ≡ b → ⊥) → times c (moved side f a b k) ≡ 1
       here-else nb = counted k (f k) (moved-other side f a b k na nb) ∙ one
+
       others : (j : ℕ) → (j ≡ k → ⊥) → times c (moved side f a b j) ≡ 0
       others j nk =
           ⊎-elim
@@ -139,5 +141,5 @@ gathered side f ms =
     record {
       origins = carried side alone ms;
       joins = λ k. sym (joined-carried side f alone ms k ∙ ap (λ (h : ℕ → List ℕ). carried side h ms k) (fun-ext (λ j. append-nil (f j))));
-      once = λ j. once-carried side j alone ms (once-alone j)
+      once = λ j. once-carried side j alone ms (once-alone j);
     }

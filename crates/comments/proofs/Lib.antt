@@ -1,3 +1,4 @@
 pub mod Joins
+pub mod Parts
 mod Turn
 mod Kept

@@ -11,5 +11,5 @@ returns g c =
           alike side (g .A·Store .lists (c .args .a .now) side) (g .B·Store .lists (c .args .b .now) side) (g .A·Store .lists (c .carry .last .store) side) (g .B·Store .lists (c .carry-2 .last .store) side) (c .args .moves .now)
           (c .carry .ensures .made side)
           (c .carry-2 .ensures .made side)
-          (e side)
+          (e side);
     }

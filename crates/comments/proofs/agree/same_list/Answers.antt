@@ -18,8 +18,7 @@ same-nth (x ∷ xs) (y ∷ ys) l h =
 
 pub returns : need.returns
 returns g c =
-    let n = c .count-n .ensures .value in
-    (
+    let n = c .count-n .ensures .value in (
       (λ _. same-nth _ _ (sym n ∙ c .if-n-count .left ∙ c .count .ensures .value) (λ k q. c .loop-rank .inv k (omega arith))),
-      λ _. refl
+      λ _. refl,
     )

@@ -30,10 +30,10 @@ returns g c =
     let new = g .S·Store .lists (c .loop-m .store) in
     let end : take (c .loop-m .m-index) s ≡ s = take-all (c .loop-m .m-index) s (c .loop-m-test .left) in
     let all : (side : Side) (k : ℕ) → g .S·Store .lists (c .loop-m .store) side k ≡ carried side (g .S·Store .lists (c .args .store .now) side) s k =
-      λ side k. c .loop-m .inv side k ∙ ap (λ (xs : List Move). carried side (old side) xs k) end
+    λ side k. c .loop-m .inv side k ∙ ap (λ (xs : List Move). carried side (old side) xs k) end
     in
     record {
       made = all;
       gathered = λ side. gathered-by side (old side) (new side) s (all side);
-      once = λ side. once-by side (old side) (new side) s (all side)
+      once = λ side. once-by side (old side) (new side) s (all side);
     }
