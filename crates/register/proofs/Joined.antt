@@ -18,7 +18,8 @@ use Rattle.comments.specs.Lists.{same}
 use Rattle.register.specs.declared.entry.Entry.{Entry}
 use Rattle.register.specs.Listing.{here, ranked, listing, Sound}
 use Rattle.register.specs.Joins.{moved-to, together}
-use Rattle.register.proofs.Ranks.{same-true, same-itself, here-true, Below, all-below}
+use Rattle.comments.proofs.Parts.{same-sides, same-self}
+use Rattle.register.proofs.Ranks.{here-true, Below, all-below}
 use Rattle.register.proofs.OneEntry.{other-here, other-ranked, apart-here, apart-ranked, gone-here, there-here, there-front, there-behind}
 use Rattle.register.proofs.Relisted.{either, count-either, Kept, kept-sound, kept-list, none-sound, none-list, Both, both-sound, both-list}
 
@@ -41,7 +42,7 @@ there es side first second to ahead y =
       apart = y .apart;
       heres = λ e. there-here first second to (same (e .side) side) (e .offset) (y .ends);
       front = λ r l e b. there-front first second to ahead r (same (e .side) side) (e .offset) (e .rank) (y .apart) (y .ends) l;
-      behind = λ r e b. there-behind first second to ahead r (same (e .side) side) (e .offset) (e .rank) (y .apart) (y .ends) (λ on o. subst (λ (x : ℕ). e .rank < x) (sym (y .long)) (below-in es side first e b (same-true (e .side) side on) o));
+      behind = λ r e b. there-behind first second to ahead r (same (e .side) side) (e .offset) (e .rank) (y .apart) (y .ends) (λ on o. subst (λ (x : ℕ). e .rank < x) (sym (y .long)) (below-in es side first e b (same-sides (e .side) side on) o));
     }
 
 elsewhere : (es : List Entry) (side at : Side) (first second to ahead k : ℕ) → same at side ≡ false → Kept es (moved-to side first second to ahead) at at k k
@@ -53,7 +54,7 @@ elsewhere es side at first second to ahead k ne =
     }
   where
     off-side : (e : Entry) → same (e .side) at ≡ true → same (e .side) side ≡ false
-    off-side e h = subst (λ (x : Side). same x side ≡ false) (sym (same-true (e .side) at h)) ne
+    off-side e h = subst (λ (x : Side). same x side ≡ false) (sym (same-sides (e .side) at h)) ne
 
 untouched : (es : List Entry) (side : Side) (first second to ahead k : ℕ) → (k ≡ to → ⊥) → (k ≡ first → ⊥) → (k ≡ second → ⊥) → Kept es (moved-to side first second to ahead) side side k k
 untouched es side first second to ahead k t f s =
@@ -78,7 +79,7 @@ kinds :
 kinds {C = C} side first second to other joint left any at k =
     ⊎-elim
     (λ s.
-    subst (λ (x : Side). C x k) (sym (same-true at side s))
+    subst (λ (x : Side). C x k) (sym (same-sides at side s))
     (⊎-elim
     (λ t. subst (λ (x : ℕ). C side x) (sym t) joint)
     (λ t.
@@ -112,7 +113,7 @@ joined-lists es side first second to ahead y =
     ∙ sym (on-side k ∙ cond-false (eqb k to) _ _ (ne-eqb k to t) ∙ cond-false (eqb k first || eqb k second) _ _ (grind (arith, tells))))
   where
     on-side : (k : ℕ) → together (listing es) side first second to side k ≡ cond (eqb k to) (listing es side first ++ listing es side second) (cond (eqb k first || eqb k second) [] (listing es side k))
-    on-side k = cond-true (same side side) _ _ (same-itself side)
+    on-side k = cond-true (same side side) _ _ (same-self side)
 
 -- the ranks that rise stay below the number of entries
 pub joined-fits : (es : List Entry) (side : Side) (first second to ahead : ℕ) → Ready es side first second to ahead → All (λ e. here side second e ≡ true → e .rank + ahead < length es) es

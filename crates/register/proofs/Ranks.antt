@@ -21,17 +21,8 @@ use Rattle.comments.specs.declared.store.Side.the-variants.{Leading, Trailing}
 use Rattle.comments.specs.Lists.{same}
 use Rattle.register.specs.declared.entry.Entry.{Entry}
 use Rattle.register.specs.Listing.{here, ranked, comment-at, listing, Sound}
+use Rattle.comments.proofs.Parts.{same-sides, same-self}
 use Rattle.register.proofs.Passes.{countBy-cons}
-
-pub same-true : (a b : Side) → same a b ≡ true → a ≡ b
-same-true Leading Leading e = refl
-same-true Leading Trailing e = let z : _≡_ {A = ℕ} 0 1 = cc in absurd (omega arith)
-same-true Trailing Leading e = let z : _≡_ {A = ℕ} 0 1 = cc in absurd (omega arith)
-same-true Trailing Trailing e = refl
-
-pub same-itself : (a : Side) → same a a ≡ true
-same-itself Leading = refl
-same-itself Trailing = refl
 
 pub same-turned : (a b : Side) → same a b ≡ same b a
 same-turned Leading Leading = refl
@@ -42,11 +33,11 @@ same-turned Trailing Trailing = refl
 pub here-true : (side : Side) (k : ℕ) (e : Entry) → here side k e ≡ true → (e .side ≡ side) × (e .offset ≡ k)
 here-true side k e h =
     let p = and-parts (same (e .side) side) (eqb (e .offset) k) h in
-    (same-true (e .side) side (p .0), eqb-true (e .offset) k (p .1))
+    (same-sides (e .side) side (p .0), eqb-true (e .offset) k (p .1))
 
 ranked-itself : (e : Entry) → ranked (e .side) (e .offset) (e .rank) e ≡ true
 ranked-itself e =
-    and-from _ _ (and-from _ _ (same-itself (e .side)) (eq-eqb (e .offset) (e .offset) refl)) (eq-eqb (e .rank) (e .rank) refl)
+    and-from _ _ (and-from _ _ (same-self (e .side)) (eq-eqb (e .offset) (e .offset) refl)) (eq-eqb (e .rank) (e .rank) refl)
 
 -- how often a rank of a list is taken
 pub taken-once : (es : List Entry) (side : Side) (k r : ℕ) → Sound es → r < countBy (here side k) es → countBy (ranked side k r) es ≡ 1

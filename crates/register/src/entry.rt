@@ -1,11 +1,12 @@
 // The record of one comment.
 ghost use mathlib.Core.Path.{_≡_};
-ghost use Rattle.comments.specs.Lists.{same};
 ghost use Rattle.register.specs.Listing.{here};
 use comments::Side;
+use comments::SideDebug;
+use comments::SidePartialEq;
 
 // One comment: the list that it stands in, by its side and offset, and its rank in it, which counts from 0.
-#[derive(Clone, Copy)]
+#[derive(Clone, Copy, Debug)]
 pub struct Entry {
     pub comment: u32,
     pub side: Side,
@@ -18,16 +19,6 @@ impl Entry {
     pub(crate) fn is_in(self, side: Side, offset: u32) -> bool
         ensures { λ r. ⌜ r ≡ here side offset self ⌝ }
     {
-        same_side(self.side, side) && self.offset == offset
+        self.side == side && self.offset == offset
     }
-}
-
-// Whether two sides are one.
-fn same_side(a: Side, b: Side) -> bool
-    ensures { λ r. ⌜ r ≡ same a b ⌝ }
-{
-    matches!(
-        (a, b),
-        (Side::Leading, Side::Leading) | (Side::Trailing, Side::Trailing)
-    )
 }
