@@ -1,0 +1,7 @@
+mod Passes
+mod Ranks
+mod Pushed
+mod OneEntry
+mod Relisted
+mod Joined
+mod Moves
