@@ -1,6 +1,6 @@
 // Two stores beside each other, of whatever kinds: that they hold the same, and that they go on holding the same.
 ghost use mathlib.Core.Path.{_≡_};
-ghost use Prim.Native.Nat.{ℕ};
+ghost use Prim.Native.Nat.{ℕ, _<_};
 ghost use Rattle.std.specs.Orderings.{Decides};
 ghost use Rattle.comments.specs.declared.store.Side.{Side};
 ghost use Rattle.comments.specs.Lists.{carried};
@@ -19,6 +19,18 @@ pub fn same_list<A: Store, B: Store>(a: &A, b: &B, side: Side, offset: u32) -> b
     }
     for rank in 0..n {
         if a.comment(side, offset, rank) != b.comment(side, offset, rank) {
+            return false;
+        }
+    }
+    true
+}
+
+// Whether two stores have the same lists, on both sides, at every offset below `end`.
+pub fn same_lists<A: Store, B: Store>(a: &A, b: &B, end: u32) -> bool
+    ensures { λ r. ⌜ Decides r ((side : Side) (k : ℕ) → k < end → A·Store .lists (now (a .entry)) side k ≡ B·Store .lists (now (b .entry)) side k) ⌝ }
+{
+    for offset in 0..end {
+        if !same_list(a, b, Side::Leading, offset) || !same_list(a, b, Side::Trailing, offset) {
             return false;
         }
     }
