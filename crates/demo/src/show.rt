@@ -5,13 +5,21 @@ use comments::Store;
 use refusal::Refusal;
 use std::io;
 
-pub fn show_answer(rt: &LibcRuntime, store: &str, comment: u32, answer: Result<(), Refusal>) -> io::Result<()> {
+pub fn show_answer(
+    rt: &LibcRuntime,
+    store: &str,
+    comment: u32,
+    answer: Result<(), Refusal>,
+) -> io::Result<()> {
     match answer {
         Ok(()) => println!(rt, "   {store}: comment {comment} is in."),
         Err(refusal) => {
             let number = refusal.number();
             let value = refusal.value();
-            println!(rt, "   {store}: refused by {number}, records needed: {value}.")
+            println!(
+                rt,
+                "   {store}: refused by {number}, records needed: {value}."
+            )
         }
     }
 }
@@ -19,7 +27,11 @@ pub fn show_answer(rt: &LibcRuntime, store: &str, comment: u32, answer: Result<(
 pub fn show_move(rt: &LibcRuntime, m: &Move) -> io::Result<()> {
     let from = m.from;
     let to = m.to;
-    println!(rt, "   from the pair at {} to {} to what stands at {} to {}", from.lo, from.hi, to.lo, to.hi)
+    println!(
+        rt,
+        "   from the pair at {} to {} to what stands at {} to {}",
+        from.lo, from.hi, to.lo, to.hi
+    )
 }
 
 // Prints every list of a store that is not empty, at the offsets below `end`.
@@ -31,7 +43,13 @@ pub fn show_lists<S: Store>(rt: &LibcRuntime, name: &str, store: &S, end: u32) -
     Ok(())
 }
 
-fn show_list<S: Store>(rt: &LibcRuntime, name: &str, store: &S, side: Side, offset: u32) -> io::Result<()> {
+fn show_list<S: Store>(
+    rt: &LibcRuntime,
+    name: &str,
+    store: &S,
+    side: Side,
+    offset: u32,
+) -> io::Result<()> {
     let count = store.count(side, offset);
     if count == 0 {
         return Ok(());

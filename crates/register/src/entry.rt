@@ -16,7 +16,12 @@ pub struct Entry {
 
 impl Entry {
     // What a record may hold before a register uses it.
-    pub const UNUSED: Entry = Entry { comment: 0, side: Side::Leading, offset: 0, rank: 0 };
+    pub const UNUSED: Entry = Entry {
+        comment: 0,
+        side: Side::Leading,
+        offset: 0,
+        rank: 0,
+    };
 
     // Whether the entry stands in the list on a side at an offset.
     pub(crate) fn is_in(self, side: Side, offset: u32) -> bool

@@ -10,3 +10,4 @@ mod Adding
 mod Turns
 mod Asking
 mod Fresh
+mod Idling

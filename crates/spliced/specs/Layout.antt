@@ -5,6 +5,7 @@
 --                     begin the chains of unused notes and heads, `held` counts the comments; owned has the notes of each
 --                     head's list, ns and hs the unused notes and heads, and loose the notes that are on their way from one
 --                     list to another
+--   Idle s n          no head past the slot n holds a list
 --   Laid              notes and heads have such a layout, and no note is on its way
 --
 -- Assumes nothing.
@@ -46,6 +47,9 @@ pub record Layout (m hm : List ℕ) (ls : ℕ → Option NoteList) (fn fh held :
   -- as many notes are in lists as there are comments, and the others are unused
   pub counted : length ns + held ≡ room (length m)
   pub total : length loose + sumBy length owned ≡ held
+
+abbrev pub Idle : List Head → ℕ → Type 0
+Idle s n = (n ≤ room (length s)) × ((i : ℕ) → n ≤ i → i < room (length s) → used (list-at s i) ≡ 0)
 
 abbrev pub Laid : List Note → List Head → ℕ → ℕ → ℕ → Type 0
 Laid notes heads fn fh held =

@@ -8,7 +8,7 @@ ghost use Rattle.chain.specs.Chain.{room, Beyond};
 ghost use Rattle.comments.specs.declared.store.Side.{Side};
 ghost use Rattle.comments.specs.Lists.{added, shifted};
 ghost use Rattle.spliced.specs.Heads.{listed, front-of};
-ghost use Rattle.spliced.specs.Layout.{Laid};
+ghost use Rattle.spliced.specs.Layout.{Idle, Laid};
 use crate::heads::Heads;
 use crate::heads::NoteList;
 use crate::notes::Notes;
@@ -25,8 +25,10 @@ pub struct Chains<'a> {
 impl<'a> Chains<'a> {
     // Puts a comment last in the list on a side at an offset.
     pub fn add(&mut self, side: Side, offset: u32, comment: u32)
+        requires idle { ⌜ Idle (now (now self .heads .slots)) (now self .heads .high) ⌝ }
         requires laid { ⌜ ∥ Laid (now (now self .notes .slots)) (now (now self .heads .slots)) (now self .notes .free) (now self .heads .free) (now self .held) ∥₁ ⌝ }
         requires room { ⌜ now self .held < min (room (length (now (now self .notes .slots)))) (room (length (now (now self .heads .slots)))) ⌝ }
+        ensures idle { λ _. ⌜ Idle (now (now (self .exit) .heads .slots)) (now (self .exit) .heads .high) ⌝ }
         ensures laid { λ _. ⌜ (Laid (now (now (self .entry) .notes .slots)) (now (now (self .entry) .heads .slots)) (now (self .entry) .notes .free) (now (self .entry) .heads .free) (now (self .entry) .held)
             → Laid (now (now (self .exit) .notes .slots)) (now (now (self .exit) .heads .slots)) (now (self .exit) .notes .free) (now (self .exit) .heads .free) (now (self .exit) .held)
             × ((at : Side) (k : ℕ) → listed (now (now (self .exit) .notes .slots)) (now (now (self .exit) .heads .slots)) at k ≡ added (listed (now (now (self .entry) .notes .slots)) (now (now (self .entry) .heads .slots))) side offset comment at k)) ⌝ }
@@ -59,7 +61,9 @@ impl<'a> Chains<'a> {
 
     // Moves the list on a side at one offset to the outer side of that at another.
     pub fn splice(&mut self, side: Side, from: u32, to: u32)
+        requires idle { ⌜ Idle (now (now self .heads .slots)) (now self .heads .high) ⌝ }
         requires laid { ⌜ ∥ Laid (now (now self .notes .slots)) (now (now self .heads .slots)) (now self .notes .free) (now self .heads .free) (now self .held) ∥₁ ⌝ }
+        ensures idle { λ _. ⌜ Idle (now (now (self .exit) .heads .slots)) (now (self .exit) .heads .high) ⌝ }
         ensures laid { λ _. ⌜ (Laid (now (now (self .entry) .notes .slots)) (now (now (self .entry) .heads .slots)) (now (self .entry) .notes .free) (now (self .entry) .heads .free) (now (self .entry) .held)
             → Laid (now (now (self .exit) .notes .slots)) (now (now (self .exit) .heads .slots)) (now (self .exit) .notes .free) (now (self .exit) .heads .free) (now (self .exit) .held)
             × ((at : Side) (k : ℕ) → listed (now (now (self .exit) .notes .slots)) (now (now (self .exit) .heads .slots)) at k ≡ shifted side (listed (now (now (self .entry) .notes .slots)) (now (now (self .entry) .heads .slots))) from to at k)) ⌝ }
@@ -108,6 +112,7 @@ impl<'a> Chains<'a> {
 
     // How many comments the list on a side at an offset has.
     pub fn count(&self, side: Side, offset: u32) -> usize
+        requires { ⌜ Idle (now (now self .heads .slots)) (now self .heads .high) ⌝ }
         ensures { λ r. ⌜ (Laid (now (now (self .entry) .notes .slots)) (now (now (self .entry) .heads .slots)) (now (self .entry) .notes .free) (now (self .entry) .heads .free) (now (self .entry) .held)
             → r ≡ length (listed (now (now (self .entry) .notes .slots)) (now (now (self .entry) .heads .slots)) side offset)) ⌝ }
     {
@@ -119,6 +124,7 @@ impl<'a> Chains<'a> {
 
     // The comment at a rank of that list.
     pub fn comment(&self, side: Side, offset: u32, rank: usize) -> Option<u32>
+        requires { ⌜ Idle (now (now self .heads .slots)) (now self .heads .high) ⌝ }
         ensures { λ r. ⌜ (Laid (now (now (self .entry) .notes .slots)) (now (now (self .entry) .heads .slots)) (now (self .entry) .notes .free) (now (self .entry) .heads .free) (now (self .entry) .held)
             → r ≡ nth (listed (now (now (self .entry) .notes .slots)) (now (now (self .entry) .heads .slots)) side offset) rank) ⌝ }
     {

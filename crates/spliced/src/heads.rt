@@ -2,13 +2,14 @@
 ghost use mathlib.Core.Path.{_≡_};
 ghost use mathlib.Core.Bool.{true, false};
 ghost use mathlib.Core.List.{List, map};
-ghost use Prim.Native.Nat.{ℕ, _-_, _<_};
+ghost use Prim.Native.Nat.{ℕ, _-_, _<_, _≤_};
 ghost use lib.ListN.{length, set};
 ghost use denote.Ref.{name};
 ghost use Rattle.std.specs.Options.{Cases as BySome};
 ghost use Rattle.std.specs.declared.option.Option.the-variants.{Some, None};
 ghost use Rattle.chain.specs.Chain.{room, Slot, link-at, Chain, Off, slots-from, Beyond};
 ghost use Rattle.spliced.specs.Heads.{head-links, list-at, with-list, key};
+ghost use Rattle.spliced.specs.Layout.{Idle};
 use chain::Link;
 use comments::Side;
 
@@ -72,13 +73,15 @@ pub struct Found {
     pub list: NoteList,
 }
 
-// The record of the list on a side at an offset.
-fn find_list(slots: &[Head], side: Side, offset: u32) -> Option<Found>
-    ensures { λ r. ⌜ BySome r
+// The record of the list on a side at an offset, where no record past `high` holds one.
+fn find_list(slots: &[Head], high: u16, side: Side, offset: u32) -> Option<Found>
+    requires { ⌜ Idle (now slots) high ⌝ }
+    ensures high { λ r. ⌜ BySome r (Unit {0}) (λ f. f .head ≤ high) ⌝ }
+    ensures finds { λ r. ⌜ BySome r
         ((i : ℕ) → i < room (length (now (slots .entry))) → key side offset (list-at (now (slots .entry)) i) ≡ false)
         (λ f. Slot (length (now (slots .entry))) (f .head) × (list-at (now (slots .entry)) (f .head - 1) ≡ Some (f .list)) × (key side offset (Some (f .list)) ≡ true)) ⌝ }
 {
-    for i in 0..chain::last_slot(slots) {
+    for i in 0..high {
         if let Some(list) = slots[i as usize].list {
             if list.stands_at(side, offset) {
                 return Some(Found { head: i + 1, list });
@@ -123,11 +126,13 @@ fn release(slots: &mut [Head], first: u16, head: u16)
     slots[head as usize - 1].list = None;
 }
 
-// The caller's records, and where the chain of the unused ones begins.
+// The caller's records, where the chain of the unused ones begins, and the last slot that ever held a list, so that a
+// search need not go beyond.
 #[derive(Drop)]
 pub struct Heads<'a> {
     pub slots: &'a mut [Head],
     pub free: u16,
+    pub high: u16,
 }
 
 impl<'a> Heads<'a> {
@@ -135,12 +140,17 @@ impl<'a> Heads<'a> {
     pub fn new(slots: &'a mut [Head]) -> Self
         ensures chain { λ r. ⌜ Chain (head-links (now (r .slots))) (r .free) (slots-from 1 (room (length (now (slots .entry))))) ⌝ }
         ensures unused { λ r. ⌜ ((i : ℕ) → i < room (length (now (slots .entry))) → list-at (now (r .slots)) i ≡ None) ⌝ }
+        ensures idle { λ r. ⌜ Idle (now (r .slots)) (r .high) ⌝ }
         ensures beyond { λ r. ⌜ Beyond (now (slots .entry)) (now (r .slots)) ⌝ }
         ensures lender { λ r. ⌜ name (r .slots) ≡ name (slots .entry) ⌝ }
     {
         clear(slots);
         let free = chain::make(slots);
-        Heads { slots, free }
+        Heads {
+            slots,
+            free,
+            high: 0,
+        }
     }
 
     pub fn last_slot(&self) -> u16
@@ -151,27 +161,36 @@ impl<'a> Heads<'a> {
 
     // The record of the list on a side at an offset.
     pub fn find(&self, side: Side, offset: u32) -> Option<Found>
-        ensures { λ r. ⌜ BySome r
+        requires { ⌜ Idle (now (now self .slots)) (now self .high) ⌝ }
+        ensures high { λ r. ⌜ BySome r (Unit {0}) (λ f. f .head ≤ now (self .entry) .high) ⌝ }
+        ensures finds { λ r. ⌜ BySome r
             ((i : ℕ) → i < room (length (now (now (self .entry) .slots))) → key side offset (list-at (now (now (self .entry) .slots)) i) ≡ false)
             (λ f. Slot (length (now (now (self .entry) .slots))) (f .head) × (list-at (now (now (self .entry) .slots)) (f .head - 1) ≡ Some (f .list)) × (key side offset (Some (f .list)) ≡ true)) ⌝ }
     {
-        find_list(self.slots, side, offset)
+        let high = self.high;
+        find_list(self.slots, high, side, offset)
     }
 
     // Takes an unused record for a list.
     pub fn draw(&mut self, list: NoteList)
-        requires { ⌜ Slot (length (now (now self .slots))) (now self .free) ⌝ }
+        requires slot { ⌜ Slot (length (now (now self .slots))) (now self .free) ⌝ }
+        requires idle { ⌜ Idle (now (now self .slots)) (now self .high) ⌝ }
+        ensures idle { λ _. ⌜ Idle (now (now (self .exit) .slots)) (now (self .exit) .high) ⌝ }
         ensures free { λ _. ⌜ now (self .exit) .free ≡ link-at (head-links (now (now (self .entry) .slots))) (now (self .entry) .free) ⌝ }
         ensures records { λ _. ⌜ now (now (self .exit) .slots) ≡ with-list (now (now (self .entry) .slots)) (now (self .entry) .free) (Some list) ⌝ }
         ensures lender { λ _. ⌜ name (now (self .exit) .slots) ≡ name (now (self .entry) .slots) ⌝ }
     {
         let first = self.free;
+        self.high = self.high.max(first);
         self.free = take_head(self.slots, first, list);
     }
 
     // Lets a record hold another list.
     pub fn hold(&mut self, head: u16, list: NoteList)
-        requires { ⌜ Slot (length (now (now self .slots))) head ⌝ }
+        requires slot { ⌜ Slot (length (now (now self .slots))) head ⌝ }
+        requires idle { ⌜ Idle (now (now self .slots)) (now self .high) ⌝ ∗ ⌜ head ≤ now self .high ⌝ }
+        ensures idle { λ _. ⌜ Idle (now (now (self .exit) .slots)) (now (self .exit) .high) ⌝ }
+        ensures high { λ _. ⌜ now (self .exit) .high ≡ now (self .entry) .high ⌝ }
         ensures free { λ _. ⌜ now (self .exit) .free ≡ now (self .entry) .free ⌝ }
         ensures records { λ _. ⌜ now (now (self .exit) .slots) ≡ with-list (now (now (self .entry) .slots)) head (Some list) ⌝ }
         ensures lender { λ _. ⌜ name (now (self .exit) .slots) ≡ name (now (self .entry) .slots) ⌝ }
@@ -183,6 +202,8 @@ impl<'a> Heads<'a> {
     pub fn give_back(&mut self, head: u16)
         requires inside { ⌜ Slot (length (now (now self .slots))) head ⌝ }
         requires off { ⌜ Off (head-links (now (now self .slots))) (now self .free) head ⌝ }
+        requires idle { ⌜ Idle (now (now self .slots)) (now self .high) ⌝ }
+        ensures idle { λ _. ⌜ Idle (now (now (self .exit) .slots)) (now (self .exit) .high) ⌝ }
         ensures free { λ _. ⌜ now (self .exit) .free ≡ head ⌝ }
         ensures records { λ _. ⌜ now (now (self .exit) .slots) ≡ set (now (now (self .entry) .slots)) (head - 1) (record { list = None; next = now (self .entry) .free }) ⌝ }
         ensures lender { λ _. ⌜ name (now (self .exit) .slots) ≡ name (now (self .entry) .slots) ⌝ }

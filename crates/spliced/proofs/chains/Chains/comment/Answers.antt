@@ -8,10 +8,10 @@ use Rattle.spliced.proofs.chains.Chains.comment.Needs as need
 
 pub returns-in-Some : need.returns-in-Some
 returns-in-Some c =
-    let s = c .in-Some .ensures tt in
+    let s = c .in-Some .ensures tt .finds in
     let found : At _ (c .args .side) (c .args .offset) (c .in-Some .found .head) (c .in-Some .found .list) = record { slot-in = s .0; holds = s .1; keyed = s .2 } in
     ranked _ _ _ _ _ (c .args .side) (c .args .offset) _ _ _ _ found (c .comment .ensures)
 
 pub returns-in-None : need.returns-in-None
 returns-in-None c =
-    λ p. sym (ap (λ (xs : List ℕ). nth xs (c .args .rank)) (list-missing _ _ _ _ _ (c .args .side) (c .args .offset) (c .in-None .ensures tt) p))
+    λ p. sym (ap (λ (xs : List ℕ). nth xs (c .args .rank)) (list-missing _ _ _ _ _ (c .args .side) (c .args .offset) (c .in-None .ensures tt .finds) p))

@@ -6,7 +6,8 @@ use Rattle.spliced.proofs.Turns.{less-room}
 use Rattle.spliced.proofs.store.Spliced.add.Needs as need
 
 pub ghost-self : need.ghost-self
-ghost-self c = (∥∥₁-map (c .args .self .now .laid) (λ p. c .add .ensures .laid p .0), tt)
+ghost-self c =
+    (c .add .ensures .idle .0, (c .add .ensures .idle .1, (∥∥₁-map (c .args .self .now .laid) (λ p. c .add .ensures .laid p .0), tt)))
 
 pub returns : need.returns
 returns c =

@@ -6,10 +6,9 @@ use Rattle.spliced.proofs.Fresh.{fresh-laid, fresh-empty}
 use Rattle.spliced.proofs.store.Spliced.new.Needs as need
 
 pub ghost-result : need.ghost-result
-ghost-result c = (
-  ∣ fresh-laid _ _ _ _ _ _ (sym (c .new .ensures .beyond .0)) (sym (c .new-2 .ensures .beyond .0)) (c .new .ensures .chain) (c .new-2 .ensures .chain) (c .new-2 .ensures .unused) ∣₁,
-  tt,
-)
+ghost-result c =
+    let laid = fresh-laid _ _ _ _ _ _ (sym (c .new .ensures .beyond .0)) (sym (c .new-2 .ensures .beyond .0)) (c .new .ensures .chain) (c .new-2 .ensures .chain) (c .new-2 .ensures .unused) in
+    (c .new-2 .ensures .idle .0, (c .new-2 .ensures .idle .1, (∣ laid ∣₁, tt)))
 
 pub returns : need.returns
 returns c =

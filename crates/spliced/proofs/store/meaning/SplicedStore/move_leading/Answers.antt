@@ -4,7 +4,8 @@ use Rattle.spliced.proofs.Turns.{same-room}
 use Rattle.spliced.proofs.store.meaning.SplicedStore.move_leading.Needs as need
 
 pub ghost-self : need.ghost-self
-ghost-self c = (∥∥₁-map (c .args .self .now .laid) (λ p. c .splice .ensures .laid p .0), tt)
+ghost-self c =
+    (c .splice .ensures .idle .0, (c .splice .ensures .idle .1, (∥∥₁-map (c .args .self .now .laid) (λ p. c .splice .ensures .laid p .0), tt)))
 
 pub returns : need.returns
 returns c =
