@@ -188,6 +188,27 @@ module _ (m hm : List ℕ) (ls : ℕ → Option NoteList) (fn fh held : ℕ) (ow
           (λ ne. ap (key side k) (sym (to .1 i p ne)) ∙ u)
           (cases-eq i t)
 
+  -- no two heads hold lists of one side and offset, still, where a head comes to hold one that no other has
+  fresh-keys :
+      (t : ℕ)
+      (l : NoteList)
+      (ls′ : ℕ → Option NoteList)
+      → ((i : ℕ) (side : Side) (k : ℕ) → i < room (length hm) → key side k (Some l) ≡ true → key side k (ls i) ≡ true → ⊥)
+      → Holding ls (room (length hm)) t (Some l) ls′
+      → ((i j : ℕ) (side : Side) (k : ℕ) → i < room (length hm) → j < room (length hm) → key side k (ls i) ≡ true → key side k (ls j) ≡ true → i ≡ j)
+      → (i j : ℕ) (side : Side) (k : ℕ) → i < room (length hm) → j < room (length hm) → key side k (ls′ i) ≡ true → key side k (ls′ j) ≡ true → i ≡ j
+  fresh-keys t l ls′ fresh to keys i j side k p q u v =
+      ⊎-elim
+      (λ ei. ⊎-elim (λ ej. ei ∙ sym ej) (λ nj. absurd (fresh j side k q (new i ei u) (old j q nj v))) (cases-eq j t))
+      (λ ni. ⊎-elim (λ ej. absurd (fresh i side k p (new j ej v) (old i p ni u))) (λ nj. keys i j side k p q (old i p ni u) (old j q nj v)) (cases-eq j t))
+      (cases-eq i t)
+    where
+      new : (i : ℕ) → i ≡ t → key side k (ls′ i) ≡ true → key side k (Some l) ≡ true
+      new i e w = ap (key side k) (sym (to .0)) ∙ ap (λ (x : ℕ). key side k (ls′ x)) (sym e) ∙ w
+
+      old : (i : ℕ) → i < room (length hm) → i ≢ t → key side k (ls′ i) ≡ true → key side k (ls i) ≡ true
+      old i r ne w = ap (key side k) (sym (to .1 i r ne)) ∙ w
+
   -- the notes on their way become a list of their own, at the first unused head
   pub opened :
       (h : ℕ)
@@ -207,10 +228,7 @@ module _ (m hm : List ℕ) (ls : ℕ → Option NoteList) (fn fh held : ℕ) (ow
         apart = λ k. omega (arith, y .apart k, sumBy-set (times k) owned (h - 1) loose [] inside, ap (times k) empty);
         heads = y .heads .2;
         once = λ i q. ⊎-elim (once-h i) (λ ne. omega (arith, y .once i q, ap used (to .1 i q ne), is-other (i + 1) h (λ e. ne (omega arith)))) (cases-eq i (h - 1));
-        keys = λ i j side k p q u v. ⊎-elim
-            (λ ei. ⊎-elim (λ ej. ei ∙ sym ej) (λ nj. absurd (fresh j side k q (new i side k ei u) (old j side k q nj v))) (cases-eq j (h - 1)))
-            (λ ni. ⊎-elim (λ ej. absurd (fresh i side k p (new j side k ej v) (old i side k p ni u))) (λ nj. y .keys i j side k p q (old i side k p ni u) (old j side k q nj v)) (cases-eq j (h - 1)))
-            (cases-eq i (h - 1));
+        keys = fresh-keys (h - 1) l ls′ fresh to (y .keys);
         counted = y .counted;
         total = omega (arith, y .total, sumBy-set length owned (h - 1) loose [] inside, ap length empty);
       }
@@ -248,12 +266,6 @@ module _ (m hm : List ℕ) (ls : ℕ → Option NoteList) (fn fh held : ℕ) (ow
           subst (λ (j : ℕ). times (j + 1) hs + used (ls′ j) ≡ 1) (sym e)
           (omega (arith, subst (λ (j : ℕ). times j (h ∷ hs) + used (ls (h - 1)) ≡ 1) up (y .once (h - 1) below), is-same h, ap used (to .0), ap (λ (j : ℕ). times j hs) up))
 
-      new : (i : ℕ) (side : Side) (k : ℕ) → i ≡ h - 1 → key side k (ls′ i) ≡ true → key side k (Some l) ≡ true
-      new i side k e u = ap (key side k) (sym (to .0)) ∙ ap (λ (j : ℕ). key side k (ls′ j)) (sym e) ∙ u
-
-      old : (i : ℕ) (side : Side) (k : ℕ) → i < room (length hm) → i ≢ h - 1 → key side k (ls′ i) ≡ true → key side k (ls i) ≡ true
-      old i side k p ne u = ap (key side k) (sym (to .1 i p ne)) ∙ u
-
   -- a list comes to stand at another side or offset, where there is none
   pub relabelled :
       (s : ℕ)
@@ -276,10 +288,7 @@ module _ (m hm : List ℕ) (ls : ℕ → Option NoteList) (fn fh held : ℕ) (ow
         apart = y .apart;
         heads = y .heads;
         once = λ i q. ⊎-elim (once-s i) (λ ne. omega (arith, y .once i q, ap used (to .1 i q ne))) (cases-eq i s);
-        keys = λ i j side k p q u v. ⊎-elim
-            (λ ei. ⊎-elim (λ ej. ei ∙ sym ej) (λ nj. absurd (fresh j side k q (new i side k ei u) (old j side k q nj v))) (cases-eq j s))
-            (λ ni. ⊎-elim (λ ej. absurd (fresh i side k p (new j side k ej v) (old i side k p ni u))) (λ nj. y .keys i j side k p q (old i side k p ni u) (old j side k q nj v)) (cases-eq j s))
-            (cases-eq i s);
+        keys = fresh-keys s l′ ls′ fresh to (y .keys);
         counted = y .counted;
         total = y .total;
       }
@@ -300,9 +309,3 @@ module _ (m hm : List ℕ) (ls : ℕ → Option NoteList) (fn fh held : ℕ) (ow
       once-s i e =
           subst (λ (j : ℕ). times (j + 1) hs + used (ls′ j) ≡ 1) (sym e)
           (omega (arith, y .once s lt, ap used here, ap used (to .0)))
-
-      new : (i : ℕ) (side : Side) (k : ℕ) → i ≡ s → key side k (ls′ i) ≡ true → key side k (Some l′) ≡ true
-      new i side k e u = ap (key side k) (sym (to .0)) ∙ ap (λ (j : ℕ). key side k (ls′ j)) (sym e) ∙ u
-
-      old : (i : ℕ) (side : Side) (k : ℕ) → i < room (length hm) → i ≢ s → key side k (ls′ i) ≡ true → key side k (ls i) ≡ true
-      old i side k p ne u = ap (key side k) (sym (to .1 i p ne)) ∙ u
