@@ -21,10 +21,10 @@ use Rattle.token.specs.declared.operator.AssignOperator.the-variants as assign
 abbrev pub Differs : {A : Type 0} → (A → List ℕ) → List ℕ → Type 0
 Differs {A} f s = (x : A) → s ≡ f x → ⊥
 
-same-text : (s t : List ℕ) → _≡_ {A = Option (List ℕ)} (Some t) (Some s) → s ≡ t
+pub same-text : (s t : List ℕ) → _≡_ {A = Option (List ℕ)} (Some t) (Some s) → s ≡ t
 same-text s t e = cc
 
-no-text : (s : List ℕ) → _≡_ {A = Option (List ℕ)} None (Some s) → ⊥
+pub no-text : (s : List ℕ) → _≡_ {A = Option (List ℕ)} None (Some s) → ⊥
 no-text s e = let z : _≡_ {A = ℕ} 0 1 = cc in omega arith
 
 pub unspelled : (s : List ℕ) → Differs wordSpelling s → Differs punctuatorSpelling s → Differs operatorSpelling s

@@ -2,6 +2,8 @@
 --
 --   spelling c       the bytes of the one spelling of c, or none: a name, a number and a string have no fixed spelling
 --   Code-of s r      r is the code that is spelled s, or none where no code is
+--   Spelled-apart    no two codes are spelled alike
+--   Exactly-if       a text has a code exactly if the code is spelled so, and none exactly if no code is
 --
 -- Assumes nothing.
 use Prim.Native.Nat.{ℕ}
@@ -116,3 +118,12 @@ spelling (code.AssignOperator x) = Some (assignSpelling x)
 abbrev pub Code-of : List ℕ → Option Code → Type 0
 Code-of s (Some c) = spelling c ≡ Some s
 Code-of s None = (c : Code) → spelling c ≡ Some s → ⊥
+
+abbrev pub Spelled-apart : Type 0
+Spelled-apart = (c d : Code) (s : List ℕ) → spelling c ≡ Some s → spelling d ≡ Some s → c ≡ d
+
+abbrev pub Exactly-if : Type 0
+Exactly-if =
+    (s : List ℕ) (r : Option Code) → Code-of s r
+    → ((c : Code) → (r ≡ Some c → spelling c ≡ Some s) × (spelling c ≡ Some s → r ≡ Some c))
+    × ((r ≡ None → (c : Code) → spelling c ≡ Some s → ⊥) × (((c : Code) → spelling c ≡ Some s → ⊥) → r ≡ None))

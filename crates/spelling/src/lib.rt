@@ -8,7 +8,11 @@ use token::Code;
 use token::Operator;
 use token::Punctuator;
 use token::Word;
-ghost use Rattle.spelling.specs.Spelling.{Code-of};
+ghost use Prim.Native.Nat.{ℕ};
+ghost use mathlib.Core.Path.{_≡_};
+ghost use mathlib.Core.List.{List};
+ghost use Rattle.std.specs.declared.option.Option.the-variants.{Some, None};
+ghost use Rattle.spelling.specs.Spelling.{Code-of, Exactly-if, Spelled-apart, spelling};
 
 /// The code that is spelled `spelling`, or `None` if no code is: then it is a name, a number, a string or no token.
 pub fn code_of(spelling: &str) -> Option<Code>
@@ -92,4 +96,21 @@ pub fn code_of(spelling: &str) -> Option<Code>
         "??=" => Some(Code::AssignOperator(AssignOperator::CoalesceAssign)),
         _ => None,
     }
+}
+
+/// The code that is found from the spelling of `code`: `code` itself, or `None` where it has no spelling.
+pub fn found_again(code: Code) -> Option<Code>
+    ensures spelled { λ r. ⌜ ((s : List ℕ) → spelling code ≡ Some s → r ≡ Some code) ⌝ }
+    ensures unspelled { λ r. ⌜ (spelling code ≡ None → r ≡ None) ⌝ }
+{
+    code_of(spelling_of(code)?)
+}
+
+/// What the contract of `code_of` comes to: no two codes are spelled alike, so a text has a code exactly if that code
+/// is spelled so, and none exactly if no code is.
+pub fn spellings_agree() -> u8
+    ensures apart { λ _. ⌜ Spelled-apart ⌝ }
+    ensures exact { λ _. ⌜ Exactly-if ⌝ }
+{
+    0
 }
