@@ -2,13 +2,15 @@
 use Prim.Native.Nat.{ℕ}
 use native.Mathlib.Omega.{arith}
 use mathlib.Core.Path.{_≡_, refl, sym, _∙_, ap, subst}
-use mathlib.Core.Bool.{Bool, true, false, cond}
+use mathlib.Core.Bool.{cond}
 use mathlib.Core.List.{List, [], _∷_}
 use Rattle.std.specs.shelf.Text.{sameBytes}
 use Rattle.std.specs.declared.option.Option.{Option}
 use Rattle.std.specs.declared.option.Option.the-variants.{Some, None}
-use Rattle.spelling.specs.Spelling.{wordSpelling, punctuatorSpelling, operatorSpelling, assignSpelling, spelling, Code-of, Spelled-apart, Exactly-if}
+use Rattle.spelling.specs.Spelling.{wordSpelling, punctuatorSpelling, operatorSpelling, assignSpelling, spelling}
+use Rattle.spelling.specs.Spelling.{Code-of, Spelled-apart, Exactly-if}
 use Rattle.spelling.proofs.Unspelled.{same-text, no-text}
+use Rattle.token.specs.Every.{words, punctuators, operators, assigns}
 use Rattle.token.specs.declared.Code.{Code}
 use Rattle.token.specs.declared.Code.the-variants as code
 use Rattle.token.specs.declared.word.Word.{Word}
@@ -19,18 +21,6 @@ use Rattle.token.specs.declared.operator.Operator.{Operator}
 use Rattle.token.specs.declared.operator.Operator.the-variants as operator
 use Rattle.token.specs.declared.operator.AssignOperator.{AssignOperator}
 use Rattle.token.specs.declared.operator.AssignOperator.the-variants as assign
-
-abbrev words : List Word
-words = word.Null ∷ word.True ∷ word.False ∷ word.This ∷ word.Function ∷ word.Typeof ∷ word.Void ∷ word.Delete ∷ word.In ∷ word.Instanceof ∷ word.New ∷ word.Await ∷ word.Yield ∷ word.Var ∷ word.Return ∷ word.If ∷ word.Else ∷ word.While ∷ word.For ∷ []
-
-abbrev punctuators : List Punctuator
-punctuators = punctuator.OpenParen ∷ punctuator.CloseParen ∷ punctuator.OpenBracket ∷ punctuator.CloseBracket ∷ punctuator.OpenBrace ∷ punctuator.CloseBrace ∷ punctuator.Semicolon ∷ punctuator.Comma ∷ punctuator.Dot ∷ punctuator.Colon ∷ punctuator.Question ∷ punctuator.QuestionDot ∷ punctuator.Arrow ∷ []
-
-abbrev operators : List Operator
-operators = operator.Not ∷ operator.BitNot ∷ operator.Increment ∷ operator.Decrement ∷ operator.Plus ∷ operator.Minus ∷ operator.Multiply ∷ operator.Divide ∷ operator.Remainder ∷ operator.Exponent ∷ operator.LeftShift ∷ operator.RightShift ∷ operator.UnsignedRightShift ∷ operator.Less ∷ operator.LessOrEqual ∷ operator.Greater ∷ operator.GreaterOrEqual ∷ operator.Equal ∷ operator.NotEqual ∷ operator.StrictEqual ∷ operator.StrictNotEqual ∷ operator.BitAnd ∷ operator.BitXor ∷ operator.BitOr ∷ operator.And ∷ operator.Or ∷ operator.Coalesce ∷ []
-
-abbrev assigns : List AssignOperator
-assigns = assign.Assign ∷ assign.ExponentAssign ∷ assign.MultiplyAssign ∷ assign.DivideAssign ∷ assign.RemainderAssign ∷ assign.PlusAssign ∷ assign.MinusAssign ∷ assign.LeftShiftAssign ∷ assign.RightShiftAssign ∷ assign.UnsignedRightShiftAssign ∷ assign.BitAndAssign ∷ assign.BitXorAssign ∷ assign.BitOrAssign ∷ assign.AndAssign ∷ assign.OrAssign ∷ assign.CoalesceAssign ∷ []
 
 -- The first of xs that f spells s, handed to k; or else what n gives.
 abbrev first : {A : Type 0} → (A → List ℕ) → (A → Code) → List A → List ℕ → Option Code → Option Code

@@ -1,8 +1,5 @@
 // A token: what it is and where it stands in the source text.
 
-ghost use mathlib.Core.Path.{_≡_};
-ghost use Rattle.token.specs.Same.{Decides-equality, sameCode};
-
 pub mod operator;
 pub mod punctuator;
 pub mod word;
@@ -11,6 +8,8 @@ pub use operator::AssignOperator;
 pub use operator::Operator;
 pub use punctuator::Punctuator;
 pub use word::Word;
+ghost use mathlib.Core.Path.{_≡_};
+ghost use Rattle.token.specs.Same.{Decides-equality, sameCode};
 
 /// What a token is. A name, a number and a string are spelled by whoever wrote the source; every other code has
 /// one spelling, so the code alone tells it.

@@ -64,6 +64,7 @@ pub enum Operator {
 }
 
 impl Operator {
+    /// Whether this is the operator `other`.
     pub fn same(self, other: Operator) -> bool
         ensures { λ r. ⌜ r ≡ eqb (operatorRank self) (operatorRank other) ⌝ }
     {
@@ -110,6 +111,7 @@ pub enum AssignOperator {
 }
 
 impl AssignOperator {
+    /// Whether this is the operator `other`.
     pub fn same(self, other: AssignOperator) -> bool
         ensures { λ r. ⌜ r ≡ eqb (assignRank self) (assignRank other) ⌝ }
     {

@@ -37,6 +37,7 @@ pub enum Punctuator {
 }
 
 impl Punctuator {
+    /// Whether this is the punctuator `other`.
     pub fn same(self, other: Punctuator) -> bool
         ensures { λ r. ⌜ r ≡ eqb (punctuatorRank self) (punctuatorRank other) ⌝ }
     {

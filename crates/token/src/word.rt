@@ -1,4 +1,4 @@
-// The reserved words: letters that are never a name.
+// The reserved words: letters that are never a name, behind a dot either.
 
 ghost use mathlib.Core.Path.{_≡_};
 ghost use lib.Dec.{eqb};
@@ -49,6 +49,7 @@ pub enum Word {
 }
 
 impl Word {
+    /// Whether this is the word `other`.
     pub fn same(self, other: Word) -> bool
         ensures { λ r. ⌜ r ≡ eqb (wordRank self) (wordRank other) ⌝ }
     {

@@ -1,17 +1,10 @@
 -- In the last arm the text differs from the literal of every arm before, so from the spelling of every code.
-use mathlib.Core.Path.{_≡_}
 use Rattle.spelling.specs.Spelling.{wordSpelling, punctuatorSpelling, operatorSpelling, assignSpelling}
 use Rattle.spelling.proofs.Unspelled.{Differs, unspelled}
 use Rattle.spelling.proofs.code_of.Needs as need
-use Rattle.token.specs.declared.Code.{Code}
-use Rattle.token.specs.declared.Code.the-variants as code
-use Rattle.token.specs.declared.word.Word.{Word}
 use Rattle.token.specs.declared.word.Word.the-variants as word
-use Rattle.token.specs.declared.punctuator.Punctuator.{Punctuator}
 use Rattle.token.specs.declared.punctuator.Punctuator.the-variants as punctuator
-use Rattle.token.specs.declared.operator.Operator.{Operator}
 use Rattle.token.specs.declared.operator.Operator.the-variants as operator
-use Rattle.token.specs.declared.operator.AssignOperator.{AssignOperator}
 use Rattle.token.specs.declared.operator.AssignOperator.the-variants as assign
 
 pub returns-in-rest : need.returns-in-rest
