@@ -1,9 +1,14 @@
-// One task from beginning to end: two needless pairs of a pricing rule go, and their comments are carried.
+// One task from beginning to end: a pricing rule is read from standard input, its needless pairs go, and their comments are carried.
+mod pairs;
 mod show;
 mod task;
+mod words;
 
 use std::io;
 
 fn main(rt: LibcRuntime) -> io::Result<()> {
-    task::play(&rt)
+    let mut line = String::new(rt.alloc());
+    rt.read_line(&mut line)?;
+    task::play(&rt, line.as_str().trim_end())?;
+    task::stumble(&rt, "rate # kg")
 }

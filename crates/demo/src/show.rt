@@ -1,9 +1,60 @@
-// Printing what a store answers and what it holds.
+// Printing what was read, what a store answers and what it holds.
+use crate::words::Fault;
+use crate::words::Remark;
 use comments::Move;
 use comments::Side;
 use comments::Store;
 use refusal::Refusal;
 use std::io;
+use token::Code;
+use token::Token;
+
+pub fn show_token(rt: &LibcRuntime, text: &str, token: Token) -> io::Result<()> {
+    let sort = match token.code {
+        Code::Name => "name",
+        Code::Number => "number",
+        Code::String => "string",
+        Code::Word(_) => "word",
+        Code::Punctuator(_) => "punctuator",
+        Code::Operator(_) => "operator",
+        Code::AssignOperator(_) => "assigning operator",
+    };
+    println!(
+        rt,
+        "   {} to {}: {sort} {}",
+        token.lo,
+        token.hi,
+        part(text, token.lo, token.hi)
+    )
+}
+
+pub fn show_remark(rt: &LibcRuntime, remark: Remark) -> io::Result<()> {
+    let verb = match remark.side {
+        Side::Leading => "leads",
+        Side::Trailing => "trails",
+    };
+    println!(
+        rt,
+        "   comment {} {verb} offset {}",
+        remark.number, remark.offset
+    )
+}
+
+pub fn show_fault(rt: &LibcRuntime, text: &str, fault: Fault) -> io::Result<()> {
+    match fault {
+        Fault::Unknown { lo, hi } => println!(
+            rt,
+            "   {lo} to {hi}: {} is no token.",
+            part(text, lo, hi)
+        ),
+        Fault::NoMemory => println!(rt, "   There is no memory for it."),
+    }
+}
+
+// The part of a text between two offsets.
+fn part(text: &str, lo: u32, hi: u32) -> &str {
+    text.get(lo as usize..hi as usize).unwrap_or("")
+}
 
 pub fn show_answer(
     rt: &LibcRuntime,

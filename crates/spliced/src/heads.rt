@@ -12,6 +12,7 @@ ghost use Rattle.spliced.specs.Heads.{head-links, list-at, with-list, key};
 ghost use Rattle.spliced.specs.Layout.{Idle};
 use chain::Link;
 use comments::Side;
+use comments::SidePartialEq;
 
 // A list: on which side and at which offset it stands, and the slots of its first and its last comment.
 #[derive(Clone, Copy)]
@@ -26,11 +27,7 @@ impl NoteList {
     fn stands_at(&self, side: Side, offset: u32) -> bool
         ensures { λ r. ⌜ r ≡ key side offset (Some (now (self .entry))) ⌝ }
     {
-        match (self.side, side) {
-            (Side::Leading, Side::Leading) | (Side::Trailing, Side::Trailing) => self.offset
-                == offset,
-            _ => false,
-        }
+        self.side == side && self.offset == offset
     }
 }
 
