@@ -6,7 +6,7 @@ use std::env;
 use std::io;
 use work::Work;
 
-// With the argument `full` the sizes of the README; otherwise small ones, which only show that it runs.
+/// With the argument `full` the sizes of the README; otherwise small ones, which only show that it runs.
 fn main(rt: LibcRuntime) -> io::Result<()> {
     let full = env::args(&rt)?.count() > 1;
     let by = if full { 100 } else { 1 };

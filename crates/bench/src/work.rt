@@ -21,15 +21,15 @@ use std::time::Instant;
 
 #[derive(Clone, Copy)]
 pub struct Work {
-    // How many offsets have comments, and how many comments each of them has.
+    /// How many offsets have comments, and how many comments each of them has.
     pub offsets: u32,
     pub each: u32,
     pub moves: u32,
-    // Whether each move goes one offset on; otherwise all go to and fro between two offsets.
+    /// Whether each move goes one offset on; otherwise all go to and fro between two offsets.
     pub steps: bool,
 }
 
-// Does the work in both stores.
+/// Does the work in both stores.
 pub fn measure(rt: &LibcRuntime, work: Work) -> io::Result<()> {
     let heap = rt.alloc();
     let moves = moves_of(heap, work)?;
@@ -60,7 +60,7 @@ fn moves_of(heap: Global, work: Work) -> Result<Vec<Move>, AllocError> {
     Ok(moves)
 }
 
-// Fills a store, makes the moves, and prints the time of both.
+/// Fills a store, makes the moves, and prints the time of both.
 fn run<S: Store + Fill>(
     rt: &LibcRuntime,
     name: &str,
@@ -92,7 +92,7 @@ fn run<S: Store + Fill>(
     )
 }
 
-// Gives every offset its leading comments, and answers how many the store took.
+/// Gives every offset its leading comments, and answers how many the store took.
 fn fill_all<S: Fill>(store: &mut S, work: Work) -> u32 {
     let mut held = 0u32;
     for offset in 0..work.offsets {

@@ -2,8 +2,8 @@
 ghost use mathlib.Core.Path.{_≡_};
 ghost use Prim.Native.Nat.{ℕ};
 
-// A record with a link. `link` is the slot that it leads to, `linked` the record with another link, and `rest` all that
-// the record holds besides.
+/// A record with a link. `link` is the slot that it leads to, `linked` the record with another link, and `rest` all that
+/// the record holds besides.
 pub trait Link: Sized {
     type Rest;
 

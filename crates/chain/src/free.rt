@@ -7,7 +7,7 @@ ghost use Rattle.std.specs.Options.{Cases as BySome};
 ghost use Rattle.chain.specs.Chain.{room, Slot, link-at, Chain, Off, Drawn, slots-from, after, relinked, Beyond};
 use crate::bound::Link;
 
-// The last slot of the records: those past 65,535 have none, and are never touched.
+/// The last slot of the records: those past 65,535 have none, and are never touched.
 pub fn last_slot<T>(slots: &[T]) -> u16
     ensures { λ r. ⌜ r ≡ room (length (now (slots .entry))) ⌝ }
 {
@@ -18,7 +18,7 @@ pub fn last_slot<T>(slots: &[T]) -> u16
     }
 }
 
-// Chains all slots in their order, and answers where that chain begins.
+/// Chains all slots in their order, and answers where that chain begins.
 pub fn make<T: Link>(slots: &mut [T]) -> u16
     ensures chain { λ r. ⌜ Chain (map link (now (slots .exit))) r (slots-from 1 (room (length (now (slots .entry))))) ⌝ }
     ensures records { λ _. ⌜ ((i : ℕ) (d : T) → i < room (length (now (slots .entry))) → getD (now (slots .exit)) i d ≡ linked (getD (now (slots .entry)) i d) (after (room (length (now (slots .entry)))) i)) ⌝ }
@@ -32,7 +32,7 @@ pub fn make<T: Link>(slots: &mut [T]) -> u16
     if last == 0 { 0 } else { 1 }
 }
 
-// The link of a slot's record; none where the number is no slot.
+/// The link of a slot's record; none where the number is no slot.
 pub fn next_of<T: Link>(slots: &[T], slot: u16) -> Option<u16>
     ensures { λ r. ⌜ BySome r (Slot (length (now (slots .entry))) slot → ⊥) (λ next. Slot (length (now (slots .entry))) slot × (next ≡ link-at (map link (now (slots .entry))) slot)) ⌝ }
 {
@@ -42,8 +42,8 @@ pub fn next_of<T: Link>(slots: &[T], slot: u16) -> Option<u16>
     Some(slots[slot as usize - 1].next())
 }
 
-// Takes the first slot off the chain that begins at `head`; none comes from an empty chain. The record itself stays as it
-// is, its link too.
+/// Takes the first slot off the chain that begins at `head`; none comes from an empty chain. The record itself stays as it
+/// is, its link too.
 pub fn draw<T: Link>(slots: &[T], head: &mut u16) -> Option<u16>
     ensures answer { λ r. ⌜ BySome r ((Slot (length (now (slots .entry))) (now (head .entry)) → ⊥) × (now (head .exit) ≡ now (head .entry))) (λ k. (k ≡ now (head .entry)) × Slot (length (now (slots .entry))) k × (now (head .exit) ≡ link-at (map link (now (slots .entry))) k)) ⌝ }
     ensures chain { λ r. ⌜ ((ks : List ℕ) → Chain (map link (now (slots .entry))) (now (head .entry)) ks → Drawn (map link (now (slots .entry))) ks r (now (head .exit))) ⌝ }
@@ -56,7 +56,7 @@ pub fn draw<T: Link>(slots: &[T], head: &mut u16) -> Option<u16>
     Some(first)
 }
 
-// Leads a slot's record to `next`, and leaves every other record as it was.
+/// Leads a slot's record to `next`, and leaves every other record as it was.
 pub fn link_to<T: Link>(slots: &mut [T], slot: u16, next: u16)
     requires inside { ⌜ Slot (length (now slots)) slot ⌝ }
     ensures records { λ _. ⌜ ((d : T) → now (slots .exit) ≡ relinked linked (now (slots .entry)) slot next d) ⌝ }
@@ -64,8 +64,8 @@ pub fn link_to<T: Link>(slots: &mut [T], slot: u16, next: u16)
     slots[slot as usize - 1].set_next(next);
 }
 
-// Puts a slot first on the chain that begins at `head`. That is lawful for a slot that is not on the chain: given back
-// twice, it would lead to itself, and all behind it would be lost. So whoever gives back owes that fact.
+/// Puts a slot first on the chain that begins at `head`. That is lawful for a slot that is not on the chain: given back
+/// twice, it would lead to itself, and all behind it would be lost. So whoever gives back owes that fact.
 pub fn give_back<T: Link>(slots: &mut [T], head: &mut u16, slot: u16)
     requires inside { ⌜ Slot (length (now slots)) slot ⌝ }
     requires off { ⌜ Off (map link (now slots)) (now head) slot ⌝ }
@@ -77,7 +77,7 @@ pub fn give_back<T: Link>(slots: &mut [T], head: &mut u16, slot: u16)
     *head = slot;
 }
 
-// How many slots the chain that begins at `head` has.
+/// How many slots the chain that begins at `head` has.
 pub fn count<T: Link>(slots: &[T], head: u16) -> u16
     ensures { λ r. ⌜ ((ks : List ℕ) → Chain (map link (now (slots .entry))) head ks → r ≡ length ks) ⌝ }
 {

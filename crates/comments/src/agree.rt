@@ -9,7 +9,7 @@ use crate::place::Move;
 use crate::store::Side;
 use crate::store::Store;
 
-// Whether two stores have the same list on a side at an offset.
+/// Whether two stores have the same list on a side at an offset.
 pub fn same_list<A: Store, B: Store>(a: &A, b: &B, side: Side, offset: u32) -> bool
     ensures { λ r. ⌜ Decides r (A·Store .lists (now (a .entry)) side offset ≡ B·Store .lists (now (b .entry)) side offset) ⌝ }
 {
@@ -25,7 +25,7 @@ pub fn same_list<A: Store, B: Store>(a: &A, b: &B, side: Side, offset: u32) -> b
     true
 }
 
-// Whether two stores have the same lists, on both sides, at every offset below `end`.
+/// Whether two stores have the same lists, on both sides, at every offset below `end`.
 pub fn same_lists<A: Store, B: Store>(a: &A, b: &B, end: u32) -> bool
     ensures { λ r. ⌜ Decides r ((side : Side) (k : ℕ) → k < end → A·Store .lists (now (a .entry)) side k ≡ B·Store .lists (now (b .entry)) side k) ⌝ }
 {
@@ -37,7 +37,7 @@ pub fn same_lists<A: Store, B: Store>(a: &A, b: &B, end: u32) -> bool
     true
 }
 
-// Makes the same moves in two stores: where they held the same lists, they hold the same lists again.
+/// Makes the same moves in two stores: where they held the same lists, they hold the same lists again.
 pub fn carry_both<A: Store, B: Store>(a: &mut A, b: &mut B, moves: &[Move])
     ensures first { λ _. ⌜ ((side : Side) (k : ℕ) → A·Store .lists (now (a .exit)) side k ≡ carried side (A·Store .lists (now (a .entry)) side) (now (moves .entry)) k) ⌝ }
     ensures second { λ _. ⌜ ((side : Side) (k : ℕ) → B·Store .lists (now (b .exit)) side k ≡ carried side (B·Store .lists (now (b .entry)) side) (now (moves .entry)) k) ⌝ }

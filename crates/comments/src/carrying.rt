@@ -7,8 +7,8 @@ ghost use Rattle.comments.specs.Laws.{Once, Gathered};
 use crate::place::Move;
 use crate::store::Store;
 
-// Makes the moves in their order: of each, the leading list goes from `from.lo` to `to.lo` and the trailing list from
-// `from.hi` to `to.hi`.
+/// Makes the moves in their order: of each, the leading list goes from `from.lo` to `to.lo` and the trailing list from
+/// `from.hi` to `to.hi`.
 pub fn carry<S: Store>(store: &mut S, moves: &[Move])
     ensures made { λ _. ⌜ ((side : Side) (k : ℕ) → lists (now (store .exit)) side k ≡ carried side (lists (now (store .entry)) side) (now (moves .entry)) k) ⌝ }
     ensures gathered { λ _. ⌜ ((side : Side) → Gathered (lists (now (store .entry)) side) (lists (now (store .exit)) side)) ⌝ }

@@ -8,7 +8,7 @@ ghost use Rattle.comments.specs.declared.store.Side.{Side};
 ghost use Rattle.comments.specs.declared.store.Side.the-variants.{Leading, Trailing};
 ghost use Rattle.comments.specs.Lists.{shifted};
 
-// On which side of its record a comment stands: a record's leading comments are at its lo, its trailing ones at its hi.
+/// On which side of its record a comment stands: a record's leading comments are at its lo, its trailing ones at its hi.
 #[derive(Clone, Copy, PartialEq, Debug)]
 pub enum Side {
     Leading,
@@ -19,19 +19,19 @@ pub trait Store {
     // The list on a side at an offset.
     ghost lists: { Self → Side → ℕ → List ℕ };
 
-    // Puts the leading list at `from` before that at `to`, and empties `from`. Equal offsets change nothing.
+    /// Puts the leading list at `from` before that at `to`, and empties `from`. Equal offsets change nothing.
     fn move_leading(&mut self, from: u32, to: u32)
         ensures moved { λ _. ⌜ ((side : Side) (k : ℕ) → lists (now (self .exit)) side k ≡ shifted Leading (lists (now (self .entry))) from to side k) ⌝ };
 
-    // Puts the trailing list at `from` after that at `to`, and empties `from`. Equal offsets change nothing.
+    /// Puts the trailing list at `from` after that at `to`, and empties `from`. Equal offsets change nothing.
     fn move_trailing(&mut self, from: u32, to: u32)
         ensures moved { λ _. ⌜ ((side : Side) (k : ℕ) → lists (now (self .exit)) side k ≡ shifted Trailing (lists (now (self .entry))) from to side k) ⌝ };
 
-    // How many comments the list has.
+    /// How many comments the list has.
     fn count(&self, side: Side, offset: u32) -> usize
         ensures value { λ r. ⌜ r ≡ length (lists (now (self .entry)) side offset) ⌝ };
 
-    // The comment at a rank of the list, which counts from 0; none past its end.
+    /// The comment at a rank of the list, which counts from 0; none past its end.
     fn comment(&self, side: Side, offset: u32, rank: usize) -> Option<u32>
         ensures value { λ r. ⌜ r ≡ nth (lists (now (self .entry)) side offset) rank ⌝ };
 }

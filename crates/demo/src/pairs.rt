@@ -7,7 +7,7 @@ use token::Code;
 use token::Punctuator;
 use token::Token;
 
-// The moves of the pairs that go, from the inner pair to the outer one.
+/// The moves of the pairs that go, from the inner pair to the outer one.
 pub fn moves_of(heap: Global, tokens: &[Token]) -> Result<Vec<Move>, AllocError> {
     let mut moves = Vec::new(heap);
     for (i, token) in tokens.iter().enumerate() {
@@ -18,7 +18,7 @@ pub fn moves_of(heap: Global, tokens: &[Token]) -> Result<Vec<Move>, AllocError>
     Ok(moves)
 }
 
-// Adds a move for each pair directly round the token at an index.
+/// Adds a move for each pair directly round the token at an index.
 fn pairs_round(tokens: &[Token], i: usize, moves: &mut Vec<Move>) -> Result<(), AllocError> {
     let to = place_at(tokens, i, i);
     for k in 1..tokens.len() {
@@ -33,7 +33,7 @@ fn pairs_round(tokens: &[Token], i: usize, moves: &mut Vec<Move>) -> Result<(), 
     Ok(())
 }
 
-// From the first of two tokens to the last one.
+/// From the first of two tokens to the last one.
 fn place_at(tokens: &[Token], first: usize, last: usize) -> Place {
     match (tokens.get(first), tokens.get(last)) {
         (Some(a), Some(b)) => Place { lo: a.lo, hi: b.hi },
@@ -41,7 +41,7 @@ fn place_at(tokens: &[Token], first: usize, last: usize) -> Place {
     }
 }
 
-// Whether two tokens are the parentheses of a pair, and not of a call's arguments.
+/// Whether two tokens are the parentheses of a pair, and not of a call's arguments.
 fn is_pair(tokens: &[Token], first: usize, last: usize) -> bool {
     let calls = first > 0 && ends_operand(tokens.get(first - 1).copied());
     is_punctuator(tokens.get(first).copied(), Punctuator::OpenParen)
@@ -56,7 +56,7 @@ fn is_punctuator(token: Option<Token>, punctuator: Punctuator) -> bool {
     }
 }
 
-// Whether a token may end an operand, so that a parenthesis behind it opens arguments.
+/// Whether a token may end an operand, so that a parenthesis behind it opens arguments.
 fn ends_operand(token: Option<Token>) -> bool {
     match token {
         Some(token) => matches!(

@@ -51,7 +51,7 @@ pub fn show_fault(rt: &LibcRuntime, text: &str, fault: Fault) -> io::Result<()> 
     }
 }
 
-// The part of a text between two offsets.
+/// The part of a text between two offsets.
 fn part(text: &str, lo: u32, hi: u32) -> &str {
     text.get(lo as usize..hi as usize).unwrap_or("")
 }
@@ -85,7 +85,7 @@ pub fn show_move(rt: &LibcRuntime, m: &Move) -> io::Result<()> {
     )
 }
 
-// Prints every list of a store that is not empty, at the offsets below `end`.
+/// Prints every list of a store that is not empty, at the offsets below `end`.
 pub fn show_lists<S: Store>(rt: &LibcRuntime, name: &str, store: &S, end: u32) -> io::Result<()> {
     for offset in 0..end {
         show_list(rt, name, store, Side::Leading, offset)?;

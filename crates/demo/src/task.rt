@@ -23,7 +23,7 @@ use spliced::Spliced;
 use spliced::SplicedStore;
 use std::io;
 
-// Plays the task on a rule.
+/// Plays the task on a rule.
 pub fn play(rt: &LibcRuntime, text: &str) -> io::Result<()> {
     println!(rt, "1. The rule:")?;
     println!(rt, "   {text}")?;
@@ -33,7 +33,7 @@ pub fn play(rt: &LibcRuntime, text: &str) -> io::Result<()> {
     }
 }
 
-// What is answered to a rule with a word that is no token.
+/// What is answered to a rule with a word that is no token.
 pub fn stumble(rt: &LibcRuntime, text: &str) -> io::Result<()> {
     println!(rt, "7. Another rule, with a word that is no token:")?;
     println!(rt, "   {text}")?;
@@ -88,14 +88,14 @@ fn show_moves(rt: &LibcRuntime, moves: &[Move]) -> io::Result<()> {
     Ok(())
 }
 
-// Behind the last offset of a text.
+/// Behind the last offset of a text.
 fn end_of(text: &str) -> u32 {
     u32::try_from(text.len())
         .unwrap_or(u32::MAX)
         .saturating_add(1)
 }
 
-// Tries one comment more than there is room for.
+/// Tries one comment more than there is room for.
 fn overfill(
     rt: &LibcRuntime,
     spliced: &mut Spliced,
@@ -119,7 +119,7 @@ fn overfill(
     compare(rt, spliced, register, end)
 }
 
-// Puts a comment into both stores, and prints what they answer.
+/// Puts a comment into both stores, and prints what they answer.
 fn fill(
     rt: &LibcRuntime,
     spliced: &mut Spliced,
@@ -140,7 +140,7 @@ fn fill(
     )
 }
 
-// Prints the lists of both stores, and whether they agree at every offset of the rule.
+/// Prints the lists of both stores, and whether they agree at every offset of the rule.
 fn compare(rt: &LibcRuntime, spliced: &Spliced, register: &Register, end: u32) -> io::Result<()> {
     show_lists(rt, "spliced chains", spliced, end)?;
     show_lists(rt, "register", register, end)?;

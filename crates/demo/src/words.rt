@@ -7,7 +7,7 @@ use std::alloc::Refused;
 use token::Code;
 use token::Token;
 
-// A comment: its number, and where it stands. It leads the token behind it, or trails the last one.
+/// A comment: its number, and where it stands. It leads the token behind it, or trails the last one.
 #[derive(Clone, Copy)]
 pub struct Remark {
     pub number: u32,
@@ -21,10 +21,10 @@ pub struct Rule {
     pub remarks: Vec<Remark>,
 }
 
-// Why a rule has no tokens.
+/// Why a rule has no tokens.
 #[derive(Clone, Copy)]
 pub enum Fault {
-    // The word from `lo` to `hi` is no token.
+    /// The word from `lo` to `hi` is no token.
     Unknown { lo: u32, hi: u32 },
     NoMemory,
 }
@@ -41,7 +41,7 @@ impl<T: Drop> From<Refused<T>> for Fault as FaultFromRefused {
     }
 }
 
-// Reads the words of a rule. What stands from a word `/*` to a word `*/` is a comment.
+/// Reads the words of a rule. What stands from a word `/*` to a word `*/` is a comment.
 pub fn read_words(heap: Global, text: &str) -> Result<Rule, Fault> {
     let mut rule = Rule {
         tokens: Vec::new(heap),
@@ -68,12 +68,12 @@ pub fn read_words(heap: Global, text: &str) -> Result<Rule, Fault> {
     Ok(rule)
 }
 
-// A length as an offset. Rules are far shorter than 4 GiB; a longer one would keep its last offset.
+/// A length as an offset. Rules are far shorter than 4 GiB; a longer one would keep its last offset.
 fn offset(length: usize) -> u32 {
     u32::try_from(length).unwrap_or(u32::MAX)
 }
 
-// A comment trails the last token, until one comes behind it.
+/// A comment trails the last token, until one comes behind it.
 fn begin_remark(rule: &mut Rule) -> Result<(), Fault> {
     let number = offset(rule.remarks.len()).saturating_add(1);
     let end = match rule.tokens.last() {
@@ -89,7 +89,7 @@ fn begin_remark(rule: &mut Rule) -> Result<(), Fault> {
     Ok(())
 }
 
-// The comments that had no token behind them yet lead the one that begins at `lo`.
+/// The comments that had no token behind them yet lead the one that begins at `lo`.
 fn settle(remarks: &mut [Remark], lo: u32) {
     for remark in remarks.iter_mut() {
         *remark = settled(*remark, lo);
@@ -107,7 +107,7 @@ fn settled(remark: Remark, lo: u32) -> Remark {
     }
 }
 
-// The code of a fixed spelling, or else of a name, a number or a string by its shape.
+/// The code of a fixed spelling, or else of a name, a number or a string by its shape.
 pub fn code_of_word(word: &str) -> Option<Code> {
     match code_of(word) {
         Some(code) => Some(code),

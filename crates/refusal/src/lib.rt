@@ -4,22 +4,22 @@ ghost use Rattle.refusal.specs.Table.{numbered, valued};
 
 #[derive(Clone, Copy, PartialEq, Debug)]
 pub enum Refusal {
-    // A tree, a piece or a slot is not of this pool, mark or kind, a slot is outside the tree given, or it may not be cut.
+    /// A tree, a piece or a slot is not of this pool, mark or kind, a slot is outside the tree given, or it may not be cut.
     InvalidSlot { slot: u16 },
-    // A Hole is left, a target is none, a tail does not stand on a Chain, or a piece is of the wrong sort.
+    /// A Hole is left, a target is none, a tail does not stand on a Chain, or a piece is of the wrong sort.
     Misplaced { slot: u16 },
-    // The answer would nest deeper than 512 records.
+    /// The answer would nest deeper than 512 records.
     TooDeep,
-    // Fewer records are free than the call needs.
+    /// Fewer records are free than the call needs.
     TooFewRecords { needed: u32 },
-    // The caller's buffer is shorter than what is to be written.
+    /// The caller's buffer is shorter than what is to be written.
     BufferTooShort { needed: u32 },
-    // The grammar does not derive the tokens.
+    /// The grammar does not derive the tokens.
     NoDerivation,
 }
 
 impl Refusal {
-    // The number of the cause.
+    /// The number of the cause.
     pub fn number(self) -> u8
         ensures { λ r. ⌜ r ≡ numbered self ⌝ }
     {
@@ -33,7 +33,7 @@ impl Refusal {
         }
     }
 
-    // The slot at fault, the records or the length needed; 0 where there is nothing to say.
+    /// The slot at fault, the records or the length needed; 0 where there is nothing to say.
     pub fn value(self) -> u32
         ensures { λ r. ⌜ r ≡ valued self ⌝ }
     {

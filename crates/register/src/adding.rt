@@ -16,7 +16,7 @@ use comments::Side;
 use refusal::Refusal;
 
 impl<'a> Register<'a> {
-    // A register without comments. The records stay as they are until comments are added.
+    /// A register without comments. The records stay as they are until comments are added.
     pub fn new(slots: &'a mut [Entry]) -> Self
         ensures lists { λ r. ⌜ ((side : Side) (k : ℕ) → lists-of r side k ≡ []) ⌝ }
         ensures spare { λ r. ⌜ spare-of r ≡ length (now (slots .entry)) ⌝ }
@@ -28,15 +28,15 @@ impl<'a> Register<'a> {
         }
     }
 
-    // For how many more comments there are records.
+    /// For how many more comments there are records.
     pub fn spare(&self) -> usize
         ensures { λ r. ⌜ r ≡ spare-of (now (self .entry)) ⌝ }
     {
         self.entries.slots.len() - self.entries.used
     }
 
-    // Puts a comment last in the list on a side at an offset. It is refused exactly where no record is spare, and then
-    // nothing changes.
+    /// Puts a comment last in the list on a side at an offset. It is refused exactly where no record is spare, and then
+    /// nothing changes.
     pub fn add(&mut self, side: Side, offset: u32, comment: u32) -> Result<(), Refusal>
         ensures fills { λ r. ⌜ Fills (lists-of (now (self .entry))) (lists-of (now (self .exit))) (spare-of (now (self .entry))) (spare-of (now (self .exit))) side offset comment r ⌝ }
         ensures same { λ r. ⌜ Cases r (λ _. Unit {0}) (λ _. now (self .exit) ≡ now (self .entry)) ⌝ }

@@ -19,7 +19,7 @@ use crate::records::Entries;
 use comments::Side;
 
 impl<'a> Entries<'a> {
-    // How many entries the list on a side at an offset has.
+    /// How many entries the list on a side at an offset has.
     pub(crate) fn count(&self, side: Side, offset: u32) -> usize
         requires { ⌜ now self .used ≤ length (now (now self .slots)) ⌝ }
         ensures { λ r. ⌜ r ≡ countBy (here side offset) (entries-of (now (self .entry))) ⌝ }
@@ -28,7 +28,7 @@ impl<'a> Entries<'a> {
         count_in(&self.slots[..used], side, offset)
     }
 
-    // The comment of the entry that has a rank in the list on a side at an offset.
+    /// The comment of the entry that has a rank in the list on a side at an offset.
     pub(crate) fn comment(&self, side: Side, offset: u32, rank: usize) -> Option<u32>
         requires { ⌜ now self .used ≤ length (now (now self .slots)) ⌝ }
         ensures { λ r. ⌜ BySome r (countBy (ranked side offset rank) (entries-of (now (self .entry))) ≡ 0) (λ c. (0 < countBy (ranked side offset rank) (entries-of (now (self .entry)))) × (c ≡ comment-at (entries-of (now (self .entry))) side offset rank)) ⌝ }
@@ -37,7 +37,7 @@ impl<'a> Entries<'a> {
         comment_in(&self.slots[..used], side, offset, rank)
     }
 
-    // Puts two lists together.
+    /// Puts two lists together.
     pub(crate) fn join(&mut self, joining: Joining)
         requires inside { ⌜ now self .used ≤ length (now (now self .slots)) ⌝ }
         requires fitting { ⌜ All (λ e. here (joining .side) (joining .second) e ≡ true → e .rank + joining .ahead < length (entries-of (now self))) (entries-of (now self)) ⌝ }
@@ -49,7 +49,7 @@ impl<'a> Entries<'a> {
         join(self.slots, used, joining);
     }
 
-    // Writes one more entry, into the first record that is none.
+    /// Writes one more entry, into the first record that is none.
     pub(crate) fn push(&mut self, entry: Entry)
         requires { ⌜ now self .used < length (now (now self .slots)) ⌝ }
         ensures used { λ _. ⌜ now (self .exit) .used ≡ now (self .entry) .used + 1 ⌝ }

@@ -5,7 +5,7 @@ use comments::Side;
 use comments::SideDebug;
 use comments::SidePartialEq;
 
-// One comment: the list that it stands in, by its side and offset, and its rank in it, which counts from 0.
+/// One comment: the list that it stands in, by its side and offset, and its rank in it, which counts from 0.
 #[derive(Clone, Copy, Debug)]
 pub struct Entry {
     pub comment: u32,
@@ -15,7 +15,7 @@ pub struct Entry {
 }
 
 impl Entry {
-    // What a record may hold before a register uses it.
+    /// What a record may hold before a register uses it.
     pub const UNUSED: Entry = Entry {
         comment: 0,
         side: Side::Leading,
@@ -23,7 +23,7 @@ impl Entry {
         rank: 0,
     };
 
-    // Whether the entry stands in the list on a side at an offset.
+    /// Whether the entry stands in the list on a side at an offset.
     pub(crate) fn is_in(self, side: Side, offset: u32) -> bool
         ensures { λ r. ⌜ r ≡ here side offset self ⌝ }
     {

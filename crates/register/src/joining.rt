@@ -10,19 +10,19 @@ ghost use Rattle.register.specs.Joins.{moved-to};
 use crate::entry::Entry;
 use comments::Side;
 
-// Two lists that become one: what stands at `second` goes behind what stands at `first`, and all of it stands at `to` then.
+/// Two lists that become one: what stands at `second` goes behind what stands at `first`, and all of it stands at `to` then.
 #[derive(Clone, Copy)]
 pub struct Joining {
     pub side: Side,
     pub first: u32,
     pub second: u32,
     pub to: u32,
-    // How many comments stand at `first`.
+    /// How many comments stand at `first`.
     pub ahead: usize,
 }
 
 impl Joining {
-    // The entry afterwards.
+    /// The entry afterwards.
     fn rejoined(self, entry: Entry) -> Entry
         requires { ⌜ (here (self .side) (self .second) entry ≡ true → entry .rank + self .ahead < 2 ^ 64) ⌝ }
         ensures { λ r. ⌜ r ≡ moved-to (self .side) (self .first) (self .second) (self .to) (self .ahead) entry ⌝ }
@@ -44,7 +44,7 @@ impl Joining {
     }
 }
 
-// Puts two lists together. The records are all entries.
+/// Puts two lists together. The records are all entries.
 fn rejoin_each(entries: &mut [Entry], joining: Joining)
     requires { ⌜ All (λ e. here (joining .side) (joining .second) e ≡ true → e .rank + joining .ahead < length (now entries)) (now entries) ⌝ }
     ensures { λ _. ⌜ now (entries .exit) ≡ map (moved-to (joining .side) (joining .first) (joining .second) (joining .to) (joining .ahead)) (now (entries .entry)) ⌝ }
@@ -54,7 +54,7 @@ fn rejoin_each(entries: &mut [Entry], joining: Joining)
     }
 }
 
-// The same where only the first `used` records are entries: those behind them stay.
+/// The same where only the first `used` records are entries: those behind them stay.
 pub fn join(slots: &mut [Entry], used: usize, joining: Joining)
     requires inside { ⌜ used ≤ length (now slots) ⌝ }
     requires fitting { ⌜ All (λ e. here (joining .side) (joining .second) e ≡ true → e .rank + joining .ahead < length (take used (now slots))) (take used (now slots)) ⌝ }

@@ -7,7 +7,7 @@ ghost use Rattle.register.specs.Listing.{here, ranked, comment-at};
 use crate::entry::Entry;
 use comments::Side;
 
-// How many of the entries stand in the list on a side at an offset.
+/// How many of the entries stand in the list on a side at an offset.
 pub fn count_in(entries: &[Entry], side: Side, offset: u32) -> usize
     ensures { λ r. ⌜ r ≡ countBy (here side offset) (now (entries .entry)) ⌝ }
 {
@@ -20,7 +20,7 @@ pub fn count_in(entries: &[Entry], side: Side, offset: u32) -> usize
     n
 }
 
-// The comment of the entry that has a rank in the list on a side at an offset.
+/// The comment of the entry that has a rank in the list on a side at an offset.
 pub fn comment_in(entries: &[Entry], side: Side, offset: u32, rank: usize) -> Option<u32>
     ensures { λ r. ⌜ BySome r (countBy (ranked side offset rank) (now (entries .entry)) ≡ 0) (λ c. (0 < countBy (ranked side offset rank) (now (entries .entry))) × (c ≡ comment-at (now (entries .entry)) side offset rank)) ⌝ }
 {

@@ -4,14 +4,14 @@ ghost use lib.ListN.{length, take};
 ghost use Rattle.register.specs.Listing.{Sound};
 use crate::entry::Entry;
 
-// The caller's records, of which the first `used` are entries.
+/// The caller's records, of which the first `used` are entries.
 #[derive(Drop)]
 pub(crate) struct Entries<'a> {
     pub(crate) slots: &'a mut [Entry],
     pub(crate) used: usize,
 }
 
-// In each list every rank below the list's length is that of exactly one entry, and no other rank is that of any.
+/// In each list every rank below the list's length is that of exactly one entry, and no other rank is that of any.
 #[derive(Drop)]
 pub struct Register<'a> {
     pub(crate) entries: Entries<'a>,

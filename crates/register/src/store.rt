@@ -14,8 +14,8 @@ use comments::Side;
 use comments::Store;
 
 impl<'a> Register<'a> {
-    // Puts the lists on a side at `first` and `second` together, in this order. `to` is one of the two: there the list is
-    // then, and the other is empty.
+    /// Puts the lists on a side at `first` and `second` together, in this order. `to` is one of the two: there the list is
+    /// then, and the other is empty.
     fn put_together(&mut self, side: Side, first: u32, second: u32, to: u32)
         requires apart { ⌜ (first ≡ second → ⊥) ⌝ }
         requires ends { ⌜ (to ≡ first) ⊎ (to ≡ second) ⌝ }
@@ -37,7 +37,7 @@ impl<'a> Register<'a> {
 pub impl<'a> Store for Register<'a> as RegisterStore {
     ghost lists = { λ r. lists-of r };
 
-    // The records that are not yet entries stay as they are.
+    /// The records that are not yet entries stay as they are.
     fn move_leading(&mut self, from: u32, to: u32)
         ensures moved { λ _. ⌜ ((side : Side) (k : ℕ) → lists-of (now (self .exit)) side k ≡ shifted Leading (lists-of (now (self .entry))) from to side k) ⌝ }
         ensures beyond { λ _. ⌜ beyond (now (self .exit)) ≡ beyond (now (self .entry)) ⌝ }

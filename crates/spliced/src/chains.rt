@@ -14,7 +14,7 @@ use crate::heads::NoteList;
 use crate::notes::Notes;
 use comments::Side;
 
-// The notes, the heads of the lists that are not empty, and how many comments are held.
+/// The notes, the heads of the lists that are not empty, and how many comments are held.
 #[derive(Drop)]
 pub struct Chains<'a> {
     pub notes: Notes<'a>,
@@ -23,7 +23,7 @@ pub struct Chains<'a> {
 }
 
 impl<'a> Chains<'a> {
-    // Puts a comment last in the list on a side at an offset.
+    /// Puts a comment last in the list on a side at an offset.
     pub fn add(&mut self, side: Side, offset: u32, comment: u32)
         requires idle { ⌜ Idle (now (now self .heads .slots)) (now self .heads .high) ⌝ }
         requires laid { ⌜ ∥ Laid (now (now self .notes .slots)) (now (now self .heads .slots)) (now self .notes .free) (now self .heads .free) (now self .held) ∥₁ ⌝ }
@@ -59,7 +59,7 @@ impl<'a> Chains<'a> {
         }
     }
 
-    // Moves the list on a side at one offset to the outer side of that at another.
+    /// Moves the list on a side at one offset to the outer side of that at another.
     pub fn splice(&mut self, side: Side, from: u32, to: u32)
         requires idle { ⌜ Idle (now (now self .heads .slots)) (now self .heads .high) ⌝ }
         requires laid { ⌜ ∥ Laid (now (now self .notes .slots)) (now (now self .heads .slots)) (now self .notes .free) (now self .heads .free) (now self .held) ∥₁ ⌝ }
@@ -102,7 +102,7 @@ impl<'a> Chains<'a> {
         self.heads.give_back(source.head);
     }
 
-    // How many comments more there is room for: each takes a note, and at most a head.
+    /// How many comments more there is room for: each takes a note, and at most a head.
     pub fn spare(&self) -> u16
         ensures { λ r. ⌜ r ≡ min (room (length (now (now (self .entry) .notes .slots)))) (room (length (now (now (self .entry) .heads .slots)))) - now (self .entry) .held ⌝ }
     {
@@ -110,7 +110,7 @@ impl<'a> Chains<'a> {
         most.saturating_sub(self.held)
     }
 
-    // How many comments the list on a side at an offset has.
+    /// How many comments the list on a side at an offset has.
     pub fn count(&self, side: Side, offset: u32) -> usize
         requires { ⌜ Idle (now (now self .heads .slots)) (now self .heads .high) ⌝ }
         ensures { λ r. ⌜ (Laid (now (now (self .entry) .notes .slots)) (now (now (self .entry) .heads .slots)) (now (self .entry) .notes .free) (now (self .entry) .heads .free) (now (self .entry) .held)
@@ -122,7 +122,7 @@ impl<'a> Chains<'a> {
         }
     }
 
-    // The comment at a rank of that list.
+    /// The comment at a rank of that list.
     pub fn comment(&self, side: Side, offset: u32, rank: usize) -> Option<u32>
         requires { ⌜ Idle (now (now self .heads .slots)) (now self .heads .high) ⌝ }
         ensures { λ r. ⌜ (Laid (now (now (self .entry) .notes .slots)) (now (now (self .entry) .heads .slots)) (now (self .entry) .notes .free) (now (self .entry) .heads .free) (now (self .entry) .held)
@@ -135,7 +135,7 @@ impl<'a> Chains<'a> {
     }
 }
 
-// The one of two lists that comes first where `source` goes to the outer side of `target`.
+/// The one of two lists that comes first where `source` goes to the outer side of `target`.
 fn outer(side: Side, source: NoteList, target: NoteList) -> NoteList
     ensures { λ r. ⌜ r ≡ front-of side source target ⌝ }
 {

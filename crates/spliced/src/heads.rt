@@ -14,7 +14,7 @@ use chain::Link;
 use comments::Side;
 use comments::SidePartialEq;
 
-// A list: on which side and at which offset it stands, and the slots of its first and its last comment.
+/// A list: on which side and at which offset it stands, and the slots of its first and its last comment.
 #[derive(Clone, Copy)]
 pub struct NoteList {
     pub side: Side,
@@ -31,7 +31,7 @@ impl NoteList {
     }
 }
 
-// The record of a list, or an unused one; the link is for the unused.
+/// The record of a list, or an unused one; the link is for the unused.
 #[derive(Clone, Copy)]
 pub struct Head {
     list: Option<NoteList>,
@@ -63,14 +63,14 @@ pub impl Link for Head as HeadLink {
     }
 }
 
-// Where a list was found.
+/// Where a list was found.
 #[derive(Clone, Copy)]
 pub struct Found {
     pub head: u16,
     pub list: NoteList,
 }
 
-// The record of the list on a side at an offset, where no record past `high` holds one.
+/// The record of the list on a side at an offset, where no record past `high` holds one.
 fn find_list(slots: &[Head], high: u16, side: Side, offset: u32) -> Option<Found>
     requires { ⌜ Idle (now slots) high ⌝ }
     ensures high { λ r. ⌜ BySome r (Unit {0}) (λ f. f .head ≤ high) ⌝ }
@@ -88,7 +88,7 @@ fn find_list(slots: &[Head], high: u16, side: Side, offset: u32) -> Option<Found
     None
 }
 
-// Makes every record that has a slot an unused one.
+/// Makes every record that has a slot an unused one.
 fn clear(slots: &mut [Head])
     ensures unused { λ _. ⌜ ((i : ℕ) → i < room (length (now (slots .entry))) → list-at (now (slots .exit)) i ≡ None) ⌝ }
     ensures beyond { λ _. ⌜ Beyond (now (slots .entry)) (now (slots .exit)) ⌝ }
@@ -98,7 +98,7 @@ fn clear(slots: &mut [Head])
     }
 }
 
-// Takes the first slot off the chain of unused records, for a list; answers where the chain goes on.
+/// Takes the first slot off the chain of unused records, for a list; answers where the chain goes on.
 fn take_head(slots: &mut [Head], first: u16, list: NoteList) -> u16
     requires { ⌜ Slot (length (now slots)) first ⌝ }
     ensures rest { λ r. ⌜ r ≡ link-at (head-links (now (slots .entry))) first ⌝ }
@@ -112,7 +112,7 @@ fn take_head(slots: &mut [Head], first: u16, list: NoteList) -> u16
     free
 }
 
-// Gives the record of a list that has become empty back to the chain of unused records, which then begins there.
+/// Gives the record of a list that has become empty back to the chain of unused records, which then begins there.
 fn release(slots: &mut [Head], first: u16, head: u16)
     requires inside { ⌜ Slot (length (now slots)) head ⌝ }
     requires off { ⌜ Off (head-links (now slots)) first head ⌝ }
@@ -123,8 +123,8 @@ fn release(slots: &mut [Head], first: u16, head: u16)
     slots[head as usize - 1].list = None;
 }
 
-// The caller's records, where the chain of the unused ones begins, and the last slot that ever held a list, so that a
-// search need not go beyond.
+/// The caller's records, where the chain of the unused ones begins, and the last slot that ever held a list, so that a
+/// search need not go beyond.
 #[derive(Drop)]
 pub struct Heads<'a> {
     pub slots: &'a mut [Head],
@@ -133,7 +133,7 @@ pub struct Heads<'a> {
 }
 
 impl<'a> Heads<'a> {
-    // All records unused.
+    /// All records unused.
     pub fn new(slots: &'a mut [Head]) -> Self
         ensures chain { λ r. ⌜ Chain (head-links (now (r .slots))) (r .free) (slots-from 1 (room (length (now (slots .entry))))) ⌝ }
         ensures unused { λ r. ⌜ ((i : ℕ) → i < room (length (now (slots .entry))) → list-at (now (r .slots)) i ≡ None) ⌝ }
@@ -156,7 +156,7 @@ impl<'a> Heads<'a> {
         chain::last_slot(self.slots)
     }
 
-    // The record of the list on a side at an offset.
+    /// The record of the list on a side at an offset.
     pub fn find(&self, side: Side, offset: u32) -> Option<Found>
         requires { ⌜ Idle (now (now self .slots)) (now self .high) ⌝ }
         ensures high { λ r. ⌜ BySome r (Unit {0}) (λ f. f .head ≤ now (self .entry) .high) ⌝ }
@@ -168,7 +168,7 @@ impl<'a> Heads<'a> {
         find_list(self.slots, high, side, offset)
     }
 
-    // Takes an unused record for a list.
+    /// Takes an unused record for a list.
     pub fn draw(&mut self, list: NoteList)
         requires slot { ⌜ Slot (length (now (now self .slots))) (now self .free) ⌝ }
         requires idle { ⌜ Idle (now (now self .slots)) (now self .high) ⌝ }
@@ -182,7 +182,7 @@ impl<'a> Heads<'a> {
         self.free = take_head(self.slots, first, list);
     }
 
-    // Lets a record hold another list.
+    /// Lets a record hold another list.
     pub fn hold(&mut self, head: u16, list: NoteList)
         requires slot { ⌜ Slot (length (now (now self .slots))) head ⌝ }
         requires idle { ⌜ Idle (now (now self .slots)) (now self .high) ⌝ ∗ ⌜ head ≤ now self .high ⌝ }
@@ -195,7 +195,7 @@ impl<'a> Heads<'a> {
         self.slots[head as usize - 1].list = Some(list);
     }
 
-    // Gives back the record of a list that has become empty.
+    /// Gives back the record of a list that has become empty.
     pub fn give_back(&mut self, head: u16)
         requires inside { ⌜ Slot (length (now (now self .slots))) head ⌝ }
         requires off { ⌜ Off (head-links (now (now self .slots))) (now self .free) head ⌝ }

@@ -10,7 +10,7 @@ ghost use Rattle.chain.specs.Chain.{room, Slot, link-at, Chain, slots-from, rel
 ghost use Rattle.spliced.specs.Notes.{links, comments, comment-at, linked-note};
 use chain::Link;
 
-// A comment, and the slot of the next one in its list.
+/// A comment, and the slot of the next one in its list.
 #[derive(Clone, Copy)]
 pub struct Note {
     comment: u32,
@@ -42,7 +42,7 @@ pub impl Link for Note as NoteLink {
     }
 }
 
-// The caller's records, and where the chain of the unused ones begins.
+/// The caller's records, and where the chain of the unused ones begins.
 #[derive(Drop)]
 pub struct Notes<'a> {
     pub slots: &'a mut [Note],
@@ -50,7 +50,7 @@ pub struct Notes<'a> {
 }
 
 impl<'a> Notes<'a> {
-    // All records unused.
+    /// All records unused.
     pub fn new(slots: &'a mut [Note]) -> Self
         ensures chain { λ r. ⌜ Chain (links (now (r .slots))) (r .free) (slots-from 1 (room (length (now (slots .entry))))) ⌝ }
         ensures beyond { λ r. ⌜ Beyond (now (slots .entry)) (now (r .slots)) ⌝ }
@@ -66,21 +66,21 @@ impl<'a> Notes<'a> {
         chain::last_slot(self.slots)
     }
 
-    // How many comments the list that begins at `first` has.
+    /// How many comments the list that begins at `first` has.
     pub fn count(&self, first: u16) -> usize
         ensures { λ r. ⌜ ((ks : List ℕ) → Chain (links (now (now (self .entry) .slots))) first ks → r ≡ length ks) ⌝ }
     {
         usize::from(chain::count(self.slots, first))
     }
 
-    // The comment at a rank of that list; none past its end.
+    /// The comment at a rank of that list; none past its end.
     pub fn comment(&self, first: u16, rank: usize) -> Option<u32>
         ensures { λ r. ⌜ ((ks : List ℕ) → Chain (links (now (now (self .entry) .slots))) first ks → r ≡ nth (map (comment-at (comments (now (now (self .entry) .slots)))) ks) rank) ⌝ }
     {
         comment_at(self.slots, first, rank)
     }
 
-    // Takes an unused record for a comment that ends its list.
+    /// Takes an unused record for a comment that ends its list.
     pub fn draw(&mut self, comment: u32) -> u16
         requires { ⌜ Slot (length (now (now self .slots))) (now self .free) ⌝ }
         ensures slot { λ r. ⌜ r ≡ now (self .entry) .free ⌝ }
@@ -93,7 +93,7 @@ impl<'a> Notes<'a> {
         slot
     }
 
-    // Leads the list that ends at `last` on to the one that begins at `first`.
+    /// Leads the list that ends at `last` on to the one that begins at `first`.
     pub fn join(&mut self, last: u16, first: u16)
         requires { ⌜ Slot (length (now (now self .slots))) last ⌝ }
         ensures free { λ _. ⌜ now (self .exit) .free ≡ now (self .entry) .free ⌝ }
@@ -104,7 +104,7 @@ impl<'a> Notes<'a> {
     }
 }
 
-// Takes the first slot off the chain of unused records, for a comment that ends its list; answers where the chain goes on.
+/// Takes the first slot off the chain of unused records, for a comment that ends its list; answers where the chain goes on.
 fn take_note(slots: &mut [Note], first: u16, comment: u32) -> u16
     requires { ⌜ Slot (length (now slots)) first ⌝ }
     ensures rest { λ r. ⌜ r ≡ link-at (links (now (slots .entry))) first ⌝ }
@@ -118,7 +118,7 @@ fn take_note(slots: &mut [Note], first: u16, comment: u32) -> u16
     free
 }
 
-// The comment of a slot's record; none where the number is no slot.
+/// The comment of a slot's record; none where the number is no slot.
 fn comment_of(slots: &[Note], slot: u16) -> Option<u32>
     ensures { λ r. ⌜ BySome r (Slot (length (now (slots .entry))) slot → ⊥) (λ c. Slot (length (now (slots .entry))) slot × (c ≡ comment-at (comments (now (slots .entry))) slot)) ⌝ }
 {
@@ -128,7 +128,7 @@ fn comment_of(slots: &[Note], slot: u16) -> Option<u32>
     Some(slots[slot as usize - 1].comment)
 }
 
-// The comment at a rank of the list that begins at `first`; none past its end.
+/// The comment at a rank of the list that begins at `first`; none past its end.
 fn comment_at(slots: &[Note], first: u16, rank: usize) -> Option<u32>
     ensures { λ r. ⌜ ((ks : List ℕ) → Chain (links (now (slots .entry))) first ks → r ≡ nth (map (comment-at (comments (now (slots .entry)))) ks) rank) ⌝ }
 {

@@ -12,7 +12,7 @@ mod meaning;
 
 pub use meaning::SplicedStore;
 
-// A store, with all its records: each is unused, or in the one list that it belongs to.
+/// A store, with all its records: each is unused, or in the one list that it belongs to.
 #[derive(Drop)]
 pub struct Spliced<'a> {
     chains: Chains<'a>,

@@ -19,7 +19,7 @@ use comments::Side;
 use refusal::Refusal;
 
 impl<'a> Spliced<'a> {
-    // An empty store. It holds as many comments as there are notes, and no more than there are heads.
+    /// An empty store. It holds as many comments as there are notes, and no more than there are heads.
     pub fn new(notes: &'a mut [Note], heads: &'a mut [Head]) -> Self
         ensures empty { λ r. ⌜ ((side : Side) (k : ℕ) → lists-in r side k ≡ []) ⌝ }
         ensures spare { λ r. ⌜ spare r ≡ min (room (length (now (notes .entry)))) (room (length (now (heads .entry)))) ⌝ }
@@ -35,14 +35,14 @@ impl<'a> Spliced<'a> {
         }
     }
 
-    // How many comments more it holds.
+    /// How many comments more it holds.
     pub fn spare(&self) -> u16
         ensures { λ r. ⌜ r ≡ spare (now (self .entry)) ⌝ }
     {
         self.chains.spare()
     }
 
-    // Puts a comment last in the list on a side at an offset.
+    /// Puts a comment last in the list on a side at an offset.
     pub fn add(&mut self, side: Side, offset: u32, comment: u32) -> Result<(), Refusal>
         ensures fills { λ r. ⌜ Fills (lists-in (now (self .entry))) (lists-in (now (self .exit))) (spare (now (self .entry))) (spare (now (self .exit))) side offset comment r ⌝ }
         ensures same { λ r. ⌜ Cases r (λ _. Unit {0}) (λ _. now (self .exit) ≡ now (self .entry)) ⌝ }
