@@ -1,0 +1,6 @@
+-- What the contracts of this crate cite.
+pub mod Codes
+pub mod Tree
+pub mod Site
+pub mod Layout
+pub mod Derives
