@@ -4,3 +4,5 @@ pub mod Tree
 pub mod Site
 pub mod Layout
 pub mod Derives
+pub mod Shape
+pub mod Parser
