@@ -8,6 +8,7 @@
 --
 -- Assumes nothing.
 use Prim.Native.Nat.{ℕ}
+use mathlib.Core.Path.{_≡_}
 use mathlib.Core.Bool.{Bool, true, false}
 use mathlib.Core.List.{List, [], _∷_}
 use lib.Dec.{T}
@@ -27,13 +28,17 @@ abbrev pub loOf : List Token → ℕ
 loOf [] = 0
 loOf (k ∷ ks) = k .lo
 
+-- How a Var ends: with nothing in a head, with a `;` elsewhere.
+abbrev pub Stops : Bool → List Token → List Token → ℕ → ℕ → Type 0
+Stops true ks r h0 h = (ks ≡ r) × (h0 ≡ h)
+Stops false ks r h0 h = (l : ℕ) × (ks ≡ token semicolon l h ∷ r)
+
 mutual
   pub data Derives : Site → Tree → List Token → List Token → Type 0 where
     derive : {s : Site} {f : Form} {us : Forest} {ks r : List Token} {h : ℕ} → T (ok s (attrOf f (attrs us))) → Follows (inHead s) (layout f (attrs us)) us ks r 0 h → Derives s (node (head f (loOf ks) h) us) ks r
 
   pub data Follows : Bool → Lay → Forest → List Token → List Token → ℕ → ℕ → Type 0 where
     d-end : {b : Bool} {r : List Token} {h : ℕ} → Follows b end nil r r h h
-    d-bare : {r : List Token} {h : ℕ} → Follows true stop nil r r h h
-    d-semi : {r : List Token} {h0 l h : ℕ} → Follows false stop nil (token semicolon l h ∷ r) r h0 h
+    d-stop : {b : Bool} {ks r : List Token} {h0 h : ℕ} → Stops b ks r h0 h → Follows b stop nil ks r h0 h
     d-tok : {b : Bool} {c : Code} {ls : Lay} {us : Forest} {ks r : List Token} {h0 l i h : ℕ} → Follows b ls us ks r i h → Follows b (tok c ls) us (token c l i ∷ ks) r h0 h
     d-kid : {b i : Bool} {s : Site} {ls : Lay} {u : Tree} {us : Forest} {ks js r : List Token} {h0 h : ℕ} → Derives s u ks js → Follows b ls us js r (headOf u .hi) h → Follows b (kid i s ls) (u ▸ us) ks r h0 h

@@ -40,7 +40,7 @@ use Rattle.kinds.specs.declared.operator.BinaryOperator.the-variants as binary
 use Rattle.kinds.specs.declared.level.Slot.{Slot}
 use Rattle.kinds.specs.declared.level.Slot.the-variants as slot
 use Rattle.grammar.specs.Codes.{openParen, closeParen, openBracket, closeBracket, openBrace, closeBrace, semicolon, comma, dot, colon, question, questionDot, arrow, equals, wordThis, wordFunction, wordIn, wordNew, wordAwait, wordYield, wordVar, wordReturn, wordIf, wordElse, wordWhile, wordFor, constantCode, unaryCode, updateCode, binaryCode}
-use Rattle.grammar.specs.Site.{Sort, expression, statement, block, declaration, property, valued, script, nothing, Begin, brace, function, other, Attr, isSort, Site, at, start, body, blockOnly, stmt, closed, init, varInit, varIn, prop, valuedName, root, ok, inHead}
+use Rattle.grammar.specs.Site.{Sort, expression, statement, block, declaration, property, valued, script, nothing, Begin, brace, function, other, Attr, isSort, Site, at, start, body, blockOnly, stmt, closed, init, varInit, varIn, prop, plainName, valuedName, root, ok, inHead}
 use Rattle.grammar.specs.Tree.{Head, Tree, Forest, node, nil, _▸_}
 
 pub data Lay : Type 0 where
@@ -88,11 +88,11 @@ abbrev pub names : List Attr → Bool → Lay
 names [] true = child (at slot.Assignment) stop
 names (c ∷ cs) true = child (at slot.Assignment) (names cs false)
 names [] false = stop
-names (c ∷ cs) false = tok comma (cond (isSort valued c) (child valuedName (tok equals (names cs true))) (child (at slot.Identifier) (names cs false)))
+names (c ∷ cs) false = tok comma (cond (isSort valued c) (child valuedName (tok equals (names cs true))) (child plainName (names cs false)))
 
 abbrev pub varOf : List Attr → Lay
-varOf [] = child (at slot.Identifier) stop
-varOf (c ∷ cs) = cond (isSort valued c) (child valuedName (tok equals (names cs true))) (child (at slot.Identifier) (names cs false))
+varOf [] = child plainName stop
+varOf (c ∷ cs) = cond (isSort valued c) (child valuedName (tok equals (names cs true))) (child plainName (names cs false))
 
 abbrev pub propOf : Key → Lay
 propOf key.Fixed = child (at slot.PropertyName) (tok colon (inside (at slot.Assignment) end))
@@ -431,10 +431,52 @@ danglesOf form.Labeled cs = lastDangles cs
 danglesOf form.Empty cs = false
 danglesOf (form.Hole s) cs = false
 
-abbrev pub singleOf : List Attr → Bool
-singleOf [] = false
-singleOf (c ∷ []) = not (isSort valued c)
-singleOf (c ∷ (d ∷ cs)) = false
+abbrev pub oneName : List Attr → Bool
+oneName [] = false
+oneName (c ∷ []) = not (isSort valued c)
+oneName (c ∷ (d ∷ cs)) = false
+
+abbrev pub isPlain : Binding → Bool
+isPlain binding.Plain = true
+isPlain binding.Valued = false
+
+abbrev pub singleOf : Form → List Attr → Bool
+singleOf form.Free cs = false
+singleOf (form.Name b) cs = isPlain b
+singleOf form.Num cs = false
+singleOf form.Str cs = false
+singleOf (form.Word w) cs = false
+singleOf form.This cs = false
+singleOf form.Array cs = false
+singleOf form.Object cs = false
+singleOf (form.Prop k) cs = false
+singleOf (form.Fn o) cs = false
+singleOf form.Arrow cs = false
+singleOf (form.Unary o) cs = false
+singleOf (form.Update o s) cs = false
+singleOf (form.Bin o) cs = false
+singleOf (form.Assign o) cs = false
+singleOf form.Cond cs = false
+singleOf form.Seq cs = false
+singleOf form.Paren cs = false
+singleOf form.Call cs = false
+singleOf (form.New a) cs = false
+singleOf (form.Member k) cs = false
+singleOf (form.Chain l e) cs = false
+singleOf form.Await cs = false
+singleOf form.Yield cs = false
+singleOf form.Script cs = false
+singleOf form.ExprStmt cs = false
+singleOf form.Var cs = oneName cs
+singleOf form.Return cs = false
+singleOf form.If cs = false
+singleOf form.While cs = false
+singleOf (form.For i t u) cs = false
+singleOf form.ForIn cs = false
+singleOf form.Block cs = false
+singleOf form.Labeled cs = false
+singleOf form.Empty cs = false
+singleOf (form.Hole s) cs = false
 
 abbrev pub firstStanding : List Attr → Standing
 firstStanding [] = primary
@@ -447,7 +489,7 @@ attrOf f cs = record
   ; bareIn = isIn f || anyOpen (layout f cs) cs
   ; begin = beginOf (layout f cs) cs
   ; dangles = danglesOf f cs
-  ; single = singleOf cs
+  ; single = singleOf f cs
   }
 
 unfoldable mutual
@@ -467,11 +509,14 @@ fitKids (kid i s ls) [] = false
 fitKids (kid i s ls) (c ∷ cs) = ok s c && fitKids ls cs
 
 unfoldable mutual
-  pub Good : Tree → Type 0
-  Good (node h us) = T (fitKids (layout (h .form) (attrs us)) (attrs us)) × Goods us
-  pub Goods : Forest → Type 0
-  Goods nil = Unit {0}
-  Goods (u ▸ us) = Good u × Goods us
+  pub good : Tree → Bool
+  good (node h us) = fitKids (layout (h .form) (attrs us)) (attrs us) && goods us
+  pub goods : Forest → Bool
+  goods nil = true
+  goods (u ▸ us) = good u && goods us
+
+abbrev pub Good : Tree → Type 0
+Good t = T (good t)
 
 -- What is written, from what the children write at their sites.
 abbrev pub Text : Type 0
