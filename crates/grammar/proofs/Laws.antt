@@ -5,7 +5,7 @@ use mathlib.Core.List.{List, [], _∷_}
 use mathlib.Core.Option.{Option, none, some}
 use Prim.Native.Nat.{ℕ, zero, suc}
 use lib.Dec.{T}
-use Rattle.kinds.specs.Levels.{Standing, sequence, assignment, conditional, coalescing, disjunction, conjunction, bitOr, bitXor, bitAnd, equality, relation, shift, sum, product, power, unary, update, bareNew, optional, call, callMember, primary, literal, member, name, isN, binaryStanding, fits}
+use Rattle.kinds.specs.Levels.{Standing, sequence, assignment, conditional, coalescing, disjunction, conjunction, bitOr, bitXor, bitAnd, equality, relation, shift, sum, product, power, unary, update, bareNew, optional, call, callMember, primary, literal, member, name, isN, isO, binaryStanding, fits}
 use Rattle.kinds.specs.declared.level.Slot.{Slot}
 use Rattle.kinds.specs.declared.level.Slot.the-variants as slot
 use Rattle.kinds.specs.declared.operator.BinaryOperator.{BinaryOperator}
@@ -475,3 +475,9 @@ in-closes = tt
 -- Everything that can be assigned to is a callee; a Name fits every slot that is read for; all fit Expression.
 pub target-call : (s : Standing) → T (fits slot.Target s) → T (fits slot.Call s)
 target-call s h = mp (fits slot.Target s) _ (at-standing (λ s. imp (fits slot.Target s) (fits slot.Call s)) tt s) h
+
+pub call-optional : (s : Standing) → T (fits slot.Call s) → T (fits slot.Optional s && not (isO s))
+call-optional s h = mp (fits slot.Call s) _ (at-standing (λ s. imp (fits slot.Call s) (fits slot.Optional s && not (isO s))) tt s) h
+
+pub chain-optional : (s : Standing) → T (fits slot.Chain s) → T (fits slot.Optional s && isO s)
+chain-optional s h = mp (fits slot.Chain s) _ (at-standing (λ s. imp (fits slot.Chain s) (fits slot.Optional s && isO s)) tt s) h

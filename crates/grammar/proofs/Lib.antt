@@ -4,3 +4,6 @@ pub mod Laws
 pub mod Steps
 pub mod Lists
 pub mod Balance
+pub mod First
+pub mod Expressions
+pub mod Suffixes

@@ -15,18 +15,18 @@ use Rattle.kinds.specs.Levels.{fits}
 use Rattle.kinds.specs.declared.form.Form.{Form}
 use Rattle.kinds.specs.declared.level.Slot.{Slot}
 use Rattle.kinds.specs.declared.level.Slot.the-variants as slot
-use Rattle.grammar.specs.Codes.{closeBrace, comma, equals, wordElse}
-use Rattle.grammar.specs.Site.{Sort, expression, statement, block, declaration, property, valued, script, nothing, sortRank, Attr, Begin, other, isSort, isExpression, isStatement, Site, at, ok, inHead}
+use Rattle.grammar.specs.Codes.{openParen, openBracket, openBrace, closeBrace, comma, equals, wordElse}
+use Rattle.grammar.specs.Site.{Sort, expression, statement, block, declaration, property, valued, script, nothing, sortRank, Attr, Begin, other, isOther, isSort, isExpression, isStatement, Site, at, ok, inHead}
 use Rattle.grammar.specs.Tree.{Head, head, headOf, Tree, Forest, node, nil, _▸_}
 use Rattle.grammar.specs.Layout.{attr, codeBegin}
 use Rattle.grammar.specs.Derives.{token, loOf}
 use Rattle.grammar.specs.Parser.{Goal, ex, stm, blk, dec, prp, nam, scr, Mode, mode, free, Do, fin, eat, sub, peek, more, items, stms, operand, behind, starts, skip, firstOpens, atStop, prefix, frameDo, After, after, next, Frame, fEnd, fIn, frame, isFrame, firstSlot, grown, takes, goesOn, settle, Ran, ran, bind, parse, loop, perform}
-use Rattle.grammar.proofs.Tests.{and-l, and-r, and-i, is-true, is-false}
+use Rattle.grammar.proofs.Tests.{imp, and-l, and-r, and-i, is-true, is-false}
 use Rattle.grammar.proofs.Laws.{called, guard, ends, closes, closes-ends, ends-guard, ends-stop, guard-first, closure}
 
 -- What the tokens of a tree begin with, by its sort.
 abbrev pub firsts : Attr → List Token → Bool
-firsts a ks = cond (isExpression a) (firstOpens ks) (cond (isStatement a) (not (atStop ks) && not (starts wordElse ks)) (cond (isSort property a) (not (starts closeBrace ks)) true))
+firsts a ks = cond (isExpression a) (firstOpens ks) (cond (isStatement a) (not (atStop ks) && (not (starts wordElse ks) && imp (isSort block a) (starts openBrace ks))) (cond (isSort property a) (not (starts closeBrace ks)) true))
 
 abbrev pub tokenBegin : List Token → Begin
 tokenBegin [] = other
@@ -39,7 +39,7 @@ goes h stm a = isStatement a && not h
 goes h blk a = isSort block a
 goes h dec a = isSort declaration a && h
 goes h prp a = isSort property a
-goes h nam a = isSort valued a || (isExpression a && a .single)
+goes h nam a = isSort valued a || (isExpression a && (a .single && fits slot.Identifier (a .standing)))
 goes h scr a = false
 
 abbrev pub isEnd : Frame → Bool
@@ -59,16 +59,17 @@ okAfter b scr a r = true
 pub record Through (b : Bool) (q : Goal) (t : Tree) (ks r : List Token) : Type 0 where
   pub on : (N : ℕ) (x : Tree × List Token) → ((m : ℕ) → N ≤ m → loop m b q t r ≡ some x) → (n : ℕ) → N + 8 * length ks ≤ n + 8 * length r → parse n b q ks ≡ some x
 
-abbrev pub To : Bool → Tree → List Token → List Token → Type 0
-To h t ks r = (b : Bool) (q : Goal) → T (goes h q (attr t)) → T (b || not (attr t .bareIn)) → T (okAfter b q (attr t) r) → Through b q t ks r
+pub record To (h : Bool) (t : Tree) (ks r : List Token) : Type 0 where
+  pub via : (b : Bool) (q : Goal) → T (goes h q (attr t)) → T (b || not (attr t .bareIn)) → T (okAfter b q (attr t) r) → Through b q t ks r
 
 pub record Claim (s : Site) (t : Tree) (ks r : List Token) : Type 0 where
   pub fit : T (ok s (attr t))
   pub lo : headOf t .lo ≡ loOf ks
   pub le : length r ≤ length ks
   pub less : T (not (isSort script (attr t))) → length r < length ks
-  pub starts : T (firsts (attr t) ks)
+  pub firstly : T (firsts (attr t) ks)
   pub begin : T (isExpression (attr t)) → attr t .begin ≡ tokenBegin ks
+  pub alone : T (isExpression (attr t) && attr t .single) → T (isOther (tokenBegin ks) && (not (starts openBracket ks) && not (starts openParen ks)))
   pub skips : (d : ℕ) → skip d ks ≡ skip d r
   pub to : To (inHead s) t ks r
 
@@ -166,6 +167,13 @@ run-as {b} {s} {s2} {us} {ks} {r} {h0} {h} {f} e p = record { le = p .le; done =
     go zero z = p .done zero z
     go (suc n) z = rw e (p .done (suc n) z)
 
+-- The look ahead at one token.
+pub run-if : {b : Bool} {c : Code} {s t : Do} {us : Forest} {ks r : List Token} {h0 h : ℕ} {f : Form} → starts c ks ≡ true → Runs b s us ks r h0 h f → Runs b (peek c s t) us ks r h0 h f
+run-if {c = c} {s = s} {t = t} {ks = ks} e p = run-as (peek-yes c s t ks e) p
+
+pub run-else : {b : Bool} {c : Code} {s t : Do} {us : Forest} {ks r : List Token} {h0 h : ℕ} {f : Form} → starts c ks ≡ false → Runs b t us ks r h0 h f → Runs b (peek c s t) us ks r h0 h f
+run-else {c = c} {s = s} {t = t} {ks = ks} e p = run-as (peek-no c s t ks e) p
+
 -- A form that begins with a token.
 pub begin-eat : {b : Bool} {q : Goal} {s : Do} {us : Forest} {c : Code} {l i h : ℕ} {ks r : List Token} {f : Form} → settle (prefix q (token c l i ∷ ks)) (token c l i ∷ ks) ≡ eat c s → Runs b s us ks r i h f → Through b q (node (head f l h) us) (token c l i ∷ ks) r
 unfolding parse perform
@@ -199,7 +207,7 @@ begin-frame {s0} {u} {us} {c} {l} {i} {h} {ks} {js} {r} {f} {b} {p} {s} a ie cp 
     go N x k (suc (suc m)) hm = rw (on, e, same-true c, d .done m (omega (arith, d .le))) (k (suc m) (omega (arith, d .le)))
     all : (N : ℕ) (x : Tree × List Token) → ((m : ℕ) → N ≤ m → loop m b (ex p) (node (head f (loOf ks) h) (u ▸ us)) r ≡ some x) → (n : ℕ) → N + 8 * length ks ≤ n + 8 * length r → parse n b (ex p) ks ≡ some x
     all N x k n z =
-        a .to b (ex p) (and-i (isExpression (attr u)) _ ie (and-i (called p) _ cp (closure b p (attr u .standing) (frame (after c)) cp tk))) nb ga .on (N + 8 * length (token c l i ∷ js) - 8 * length r) x (go N x (λ m hm. rw (a .lo) (k m hm))) n (omega (arith, d .le, a .le))
+        a .to .via b (ex p) (and-i (isExpression (attr u)) _ ie (and-i (called p) _ cp (closure b p (attr u .standing) (frame (after c)) cp tk))) nb ga .on (N + 8 * length (token c l i ∷ js) - 8 * length r) x (go N x (λ m hm. rw (a .lo) (k m hm))) n (omega (arith, d .le, a .le))
 
 -- An expression is no script.
 pub not-script : (s : Sort) → T (eqb 0 (sortRank s)) → T (not (eqb 6 (sortRank s)))
@@ -214,7 +222,7 @@ not-script nothing h = tt
 
 -- A child that is an expression.
 pub parses : {s : Site} {t : Tree} {ks r : List Token} → Claim s t ks r → (b : Bool) (p : Slot) → T (isExpression (attr t)) → T (called p) → T (fits p (attr t .standing)) → T (b || not (attr t .bareIn)) → T (ends b p (attr t .standing) (frame (next r))) → Parses b (ex p) t ks r
-parses {s} {t} {ks} {r} a b p ie c f nb e = record { less = a .less (not-script (attr t .sort) ie); done = λ n hn. a .to b (ex p) (and-i (isExpression (attr t)) _ ie (and-i (called p) _ c f)) nb (ends-guard b p (attr t .standing) (frame (next r)) e) .on 1 (t, r) (stop b (ex p) t r (off (isExpression (attr t)) (ends-stop b p (attr t .standing) (frame (next r)) e))) n (omega arith) }
+parses {s} {t} {ks} {r} a b p ie c f nb e = record { less = a .less (not-script (attr t .sort) ie); done = λ n hn. a .to .via b (ex p) (and-i (isExpression (attr t)) _ ie (and-i (called p) _ c f)) nb (ends-guard b p (attr t .standing) (frame (next r)) e) .on 1 (t, r) (stop b (ex p) t r (off (isExpression (attr t)) (ends-stop b p (attr t .standing) (frame (next r)) e))) n (omega arith) }
   where
     off : (x : Bool) {y : Bool} → y ≡ false → (x && y) ≡ false
     off true e = e

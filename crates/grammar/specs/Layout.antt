@@ -40,7 +40,7 @@ use Rattle.kinds.specs.declared.operator.BinaryOperator.the-variants as binary
 use Rattle.kinds.specs.declared.level.Slot.{Slot}
 use Rattle.kinds.specs.declared.level.Slot.the-variants as slot
 use Rattle.grammar.specs.Codes.{openParen, closeParen, openBracket, closeBracket, openBrace, closeBrace, semicolon, comma, dot, colon, question, questionDot, arrow, equals, wordThis, wordFunction, wordIn, wordNew, wordAwait, wordYield, wordVar, wordReturn, wordIf, wordElse, wordWhile, wordFor, constantCode, unaryCode, updateCode, binaryCode}
-use Rattle.grammar.specs.Site.{Sort, expression, statement, block, declaration, property, valued, script, nothing, Begin, brace, function, other, Attr, isSort, Site, at, start, body, blockOnly, stmt, closed, init, varInit, varIn, prop, plainName, valuedName, root, ok, inHead}
+use Rattle.grammar.specs.Site.{Sort, expression, statement, block, declaration, property, valued, script, nothing, Begin, brace, function, other, Attr, isSort, Site, at, start, body, blockOnly, stmt, closed, init, varInit, varIn, prop, plainName, valuedName, keyName, root, ok, inHead}
 use Rattle.grammar.specs.Tree.{Head, Tree, Forest, node, nil, _▸_}
 
 pub data Lay : Type 0 where
@@ -81,7 +81,7 @@ abbrev pub argumentsOf : List Attr → Lay
 argumentsOf cs = tok openParen (listed (at slot.Assignment) cs (tok closeParen end))
 
 abbrev pub parameters : List Attr → Lay → Lay
-parameters cs ls = tok openParen (listed (at slot.Identifier) cs (tok closeParen ls))
+parameters cs ls = tok openParen (listed plainName cs (tok closeParen ls))
 
 -- The Names of a Var: the next Name, or (true) the value of the Name before.
 abbrev pub names : List Attr → Bool → Lay
@@ -95,12 +95,12 @@ varOf [] = child plainName stop
 varOf (c ∷ cs) = cond (isSort valued c) (child valuedName (tok equals (names cs true))) (child plainName (names cs false))
 
 abbrev pub propOf : Key → Lay
-propOf key.Fixed = child (at slot.PropertyName) (tok colon (inside (at slot.Assignment) end))
+propOf key.Fixed = child keyName (tok colon (inside (at slot.Assignment) end))
 propOf key.Computed = tok openBracket (inside (at slot.Assignment) (tok closeBracket (tok colon (inside (at slot.Assignment) end))))
 
 abbrev pub fnOf : Own → List Attr → Lay
 fnOf own.Nameless cs = parameters (butLast cs) (inside blockOnly end)
-fnOf own.Named cs = child (at slot.Identifier) (parameters (butLast (rest cs)) (inside blockOnly end))
+fnOf own.Named cs = child plainName (parameters (butLast (rest cs)) (inside blockOnly end))
 
 abbrev pub updateOf : Side → Code → Lay
 updateOf side.Before c = tok c (child (at slot.Target) end)
@@ -169,11 +169,11 @@ newOf arguments.Unlisted cs = child (at slot.New) end
 
 -- A Name or a computed key, behind an object.
 abbrev pub keyOf : Key → Lay
-keyOf key.Fixed = tok dot (inside (at slot.Identifier) end)
+keyOf key.Fixed = tok dot (inside plainName end)
 keyOf key.Computed = tok openBracket (inside (at slot.Expression) (tok closeBracket end))
 
 abbrev pub linkOf : Link → Entry → List Attr → Lay
-linkOf link.Name entry.Optional cs = child (at slot.Optional) (tok questionDot (inside (at slot.Identifier) end))
+linkOf link.Name entry.Optional cs = child (at slot.Optional) (tok questionDot (inside plainName end))
 linkOf link.Key entry.Optional cs = child (at slot.Optional) (tok questionDot (keyOf key.Computed))
 linkOf link.Call entry.Optional cs = child (at slot.Optional) (tok questionDot (argumentsOf (rest cs)))
 linkOf link.Name entry.Tail cs = child (at slot.Chain) (keyOf key.Fixed)
@@ -250,7 +250,7 @@ layout form.While cs = tok wordWhile (tested (child stmt end))
 layout (form.For i t u) cs = tok wordFor (forOf i t u cs)
 layout form.ForIn cs = tok wordFor (tok openParen (child (leftSite cs) (tok wordIn (inside (at slot.Expression) (tok closeParen (child stmt end))))))
 layout form.Block cs = tok openBrace (run cs (tok closeBrace end))
-layout form.Labeled cs = child (at slot.Identifier) (tok colon (child stmt end))
+layout form.Labeled cs = child plainName (tok colon (child stmt end))
 layout form.Empty cs = tok semicolon end
 layout (form.Hole s) cs = end
 
@@ -443,8 +443,8 @@ isPlain binding.Valued = false
 abbrev pub singleOf : Form → List Attr → Bool
 singleOf form.Free cs = false
 singleOf (form.Name b) cs = isPlain b
-singleOf form.Num cs = false
-singleOf form.Str cs = false
+singleOf form.Num cs = true
+singleOf form.Str cs = true
 singleOf (form.Word w) cs = false
 singleOf form.This cs = false
 singleOf form.Array cs = false

@@ -2,7 +2,8 @@
 --
 --   Attr             the sort of a tree (an expression, a statement ..); of an expression its standing, whether an `in` stands
 --                    in the open in it, and what it begins with; of a statement whether an `else` behind it would be its own;
---                    of a Name and of a Var whether it is a single Name without a value
+--                    of a Var whether it is a single Name without a value, of a Name, a Num and a Str that
+--                    it is a single token
 --   Site             where a tree can stand: an expression in one of the slots, and a dozen others
 --   ok s a           a tree with the attributes a may stand at the site s
 --
@@ -80,8 +81,8 @@ pub data Site : Type 0 where
   varIn : Site
   -- a Prop
   prop : Site
-  -- a Name of a Var without a value, and one with a value next to it
-  plainName valuedName : Site
+  -- a plain Name; a Name of a Var with a value next to it; a key that is not computed
+  plainName valuedName keyName : Site
   -- the whole script
   root : Site
 
@@ -96,7 +97,8 @@ ok init a = isExpression a && not (a .bareIn)
 ok varInit a = isSort declaration a && not (a .bareIn)
 ok varIn a = isSort declaration a && a .single
 ok prop a = isSort property a
-ok plainName a = isExpression a && a .single
+ok plainName a = isExpression a && (a .single && fits slot.Identifier (a .standing))
+ok keyName a = isExpression a && (a .single && fits slot.PropertyName (a .standing))
 ok valuedName a = isSort valued a
 ok root a = isSort script a
 
@@ -113,5 +115,6 @@ inHead varInit = true
 inHead varIn = true
 inHead prop = false
 inHead plainName = false
+inHead keyName = false
 inHead valuedName = false
 inHead root = false
