@@ -47,16 +47,16 @@ use Rattle.kinds.specs.declared.level.Slot.the-variants as slot
 
 use Rattle.kinds.specs.Levels.{Standing, sequence, assignment, conditional, unary, update, bareNew, optional, call, callMember, primary, member, isC, isO, isTarget, binaryStanding, fits}
 use Rattle.grammar.specs.Codes.{openParen, closeParen, openBracket, closeBracket, openBrace, closeBrace, semicolon, comma, dot, colon, question, questionDot, arrow, equals, wordThis, wordFunction, wordIn, wordNew, wordAwait, wordYield, wordVar, wordReturn, wordIf, wordElse, wordWhile, wordFor, constantCode, unaryCode, updateCode, binaryCode}
-use Rattle.grammar.specs.Site.{Sort, expression, statement, block, declaration, property, valued, script, nothing, sortRank, Begin, brace, function, other, Attr, isSort, isExpression, isStatement, isOther, isBrace, Site, at, start, body, blockOnly, stmt, closed, init, varInit, varIn, prop, plainName, valuedName, keyName, root, ok, inHead}
+use Rattle.grammar.specs.Site.{Sort, expression, statement, block, declaration, property, valued, script, nothing, sortRank, Begin, brace, function, other, Attr, isSort, isExpression, isStatement, isOther, isBrace, Site, at, start, body, blockOnly, stmt, closed, init, varInit, forLeft, varIn, prop, plainName, valuedName, keyName, root, ok, inHead}
 use Rattle.grammar.specs.Tree.{Head, head, headOf, Tree, Forest, node, nil, _▸_}
-use Rattle.grammar.specs.Layout.{Lay, end, stop, tok, kid, commas, listed, layout, leftSlot, rightSlot, inOperator, attrOf, attr, attrs, anyOpen, codeBegin, rest, butLast}
+use Rattle.grammar.specs.Layout.{Lay, end, stop, tok, kid, commas, listed, layout, leftSlot, rightSlot, inOperator, attrOf, attr, attrs, anyOpen, lastDangles, codeBegin, rest, butLast, names as namesOf, run as runOf, initSite, leftSite}
 use Rattle.grammar.specs.Derives.{token, loOf}
-use Rattle.grammar.specs.Parser.{Goal, ex, stm, blk, dec, prp, nam, scr, Mode, same, free, shut, mode, Do, fin, eat, sub, peek, more, items, stms, operand, names, behind, starts, skip, opens, firstOpens, atStop, tailOf, prefix, frameDo, After, operates, separates, asks, ends, cannot, after, next, Frame, fSeq, fAsg, fCnd, fNul, fOr, fAnd, fBor, fXor, fBand, fEq, fRel, fIn, fShf, fAdd, fMul, fPow, fPost, fMem, fCall, fLink, fEnd, fNever, frame, binaryFrame, isFrame, firstSlot, grown, takes, settle, arrowDo, parenDo}
+use Rattle.grammar.specs.Parser.{Goal, ex, stm, blk, dec, prp, nam, scr, Mode, same, free, shut, mode, Do, fin, eat, sub, peek, more, items, stms, operand, names, behind, starts, skip, opens, firstOpens, atStop, tailOf, prefix, frameDo, After, operates, separates, asks, ends, cannot, after, next, Frame, fSeq, fAsg, fCnd, fNul, fOr, fAnd, fBor, fXor, fBand, fEq, fRel, fIn, fShf, fAdd, fMul, fPow, fPost, fMem, fCall, fLink, fEnd, fNever, frame, binaryFrame, isFrame, firstSlot, grown, takes, settle, arrowDo, parenDo, inOr, forTest}
 use Rattle.grammar.proofs.Tests.{and-l, and-r, and-i, or-l, is-true, is-false, no-both, imp, mp}
-use Rattle.grammar.proofs.Laws.{called, guard, ends as endsAt, closes, closes-ends, guard-real, guard-first, isNever, isComma, isCall, isBoth, edge-unary, edge-assignment, edge-conditional, edge-bare-new, edge-update, edge-binary, edge-sequence, edge-name, no-list, callee, no-operand, end-closes, comma-closes, in-closes, target-call, call-optional, chain-optional}
+use Rattle.grammar.proofs.Laws.{called, guard, ends as endsAt, closes, closes-ends, guard-real, guard-first, isNever, isComma, isCall, isBoth, edge-unary, edge-assignment, edge-conditional, edge-bare-new, edge-update, edge-binary, edge-sequence, edge-name, no-list, callee, no-operand, end-closes, comma-closes, in-closes, in-closes-item, target-call, call-optional, chain-optional}
 use Rattle.grammar.proofs.Fills.{Fills, f-end, f-stop, f-tok, f-kid}
 use Rattle.grammar.proofs.Steps.{Claim, Through, To, Parses, Runs, goes, okAfter, tokenBegin, not-starts, no-start, stop as stops, parses, run-fin, run-eat, run-sub, run-as, run-if, run-else, begin-eat, begin-sub, begin-frame, peek-yes, peek-no, operand-some, operand-none, behind-none}
-use Rattle.grammar.proofs.Lists.{nor-l, nor-r, cond-t, cond-f, first-opens, first-not, at-expression, at-fits, parses-at, after-item, more-runs, items-run, list-runs, names-run, name-expression, name-fits, name-alone, parses-name, parses-statement, parses-closed, statements-run}
+use Rattle.grammar.proofs.Lists.{nor-l, nor-r, cond-t, cond-f, first-opens, first-not, at-expression, at-fits, parses-at, after-item, more-runs, items-run, list-runs, names-run, name-expression, name-fits, name-alone, parses-name, parses-statement, parses-last, parses-closed, statements-run}
 
 -- An expression is read for a slot alone.
 pub on-ex : {h : Bool} {t : Tree} {ks r : List Token} → attr t .sort ≡ expression → attr t .single ≡ false → ((b : Bool) (p : Slot) → T (called p) → T (fits p (attr t .standing)) → T (b || not (attr t .bareIn)) → T (guard b p (attr t .standing) (frame (next r))) → Through b (ex p) t ks r) → To h t ks r
@@ -324,7 +324,7 @@ no-brace (k ∷ ks) h = go (sameCode (k .code) openBrace) h
 block-first : {s : Site} {u : Tree} {ks js : List Token} → Claim s u ks js → T (isSort block (attr u)) → T (starts openBrace ks)
 block-first {u = u} {ks = ks} a e =
     let st : T (isStatement (attr u)) = block-statement (attr u .sort) e in
-    mp (isSort block (attr u)) _ (and-r (not (starts wordElse ks)) _ (and-r (not (atStop ks)) _ (cond-t (isStatement (attr u)) _ _ st (cond-f (isExpression (attr u)) _ _ (block-not-expression (attr u .sort) e) (a .firstly))))) e
+    mp (isSort block (attr u)) _ (and-l (imp (isSort block (attr u)) (starts openBrace ks)) _ (and-r (not (starts wordElse ks)) _ (and-r (not (atStop ks)) _ (cond-t (isStatement (attr u)) _ _ st (cond-f (isExpression (attr u)) _ _ (block-not-expression (attr u .sort) e) (a .firstly)))))) e
   where
     block-statement : (s : Sort) → T (eqb 2 (sortRank s)) → T (eqb 1 (sortRank s) || (eqb 2 (sortRank s) || eqb 3 (sortRank s)))
     block-statement expression h = h

@@ -47,7 +47,7 @@ use Rattle.kinds.specs.declared.level.Slot.the-variants as slot
 
 use Rattle.kinds.specs.Levels.{fits}
 use Rattle.grammar.specs.Codes.{openParen, openBracket, openBrace, closeBrace, wordElse}
-use Rattle.grammar.specs.Site.{Sort, Begin, script, block, nothing, property, Attr, isSort, isExpression, isStatement, isOther, isBrace, Site, at, start, body, blockOnly, stmt, closed, init, varInit, varIn, prop, plainName, valuedName, keyName, root, ok}
+use Rattle.grammar.specs.Site.{Sort, Begin, script, declaration, block, nothing, property, Attr, isSort, isExpression, isStatement, isOther, isBrace, Site, at, start, body, blockOnly, stmt, closed, init, varInit, forLeft, varIn, prop, plainName, valuedName, keyName, root, ok}
 use Rattle.grammar.specs.Tree.{Head, head, headOf, Tree, Forest, node, nil, _▸_}
 use Rattle.grammar.specs.Layout.{Lay, end, stop, tok, kid, layout, attrOf, attr, attrs, beginOf}
 use Rattle.grammar.specs.Derives.{token}
@@ -67,6 +67,7 @@ exprSite stmt = false
 exprSite closed = false
 exprSite init = true
 exprSite varInit = false
+exprSite forLeft = true
 exprSite varIn = false
 exprSite prop = false
 exprSite plainName = true
@@ -83,6 +84,7 @@ site-expression stmt a h k = absurd h
 site-expression closed a h k = absurd h
 site-expression init a h k = and-l (isExpression a) _ k
 site-expression varInit a h k = absurd h
+site-expression forLeft a h k = and-l (isExpression a) _ k
 site-expression varIn a h k = absurd h
 site-expression prop a h k = absurd h
 site-expression plainName a h k = and-l (isExpression a) _ k
@@ -98,7 +100,7 @@ abbrev firstOk : Form → List Attr → Lay → Bool
 firstOk f cs end = isSort script (attrOf f cs) || isSort nothing (attrOf f cs)
 firstOk f cs stop = false
 firstOk f cs (tok c ls) = firsts (attrOf f cs) (token c 0 0 ∷ []) && imp (isExpression (attrOf f cs) && attrOf f cs .single) (aloneAt (token c 0 0 ∷ []))
-firstOk f cs (kid i s ls) = isSort script (attrOf f cs) || (exprSite s && (not (isSort block (attrOf f cs)) && not (isExpression (attrOf f cs) && attrOf f cs .single)))
+firstOk f cs (kid i s ls) = isSort script (attrOf f cs) || (exprSite s && ((not (isSort block (attrOf f cs)) && not (isSort declaration (attrOf f cs))) && not (isExpression (attrOf f cs) && attrOf f cs .single)))
 
 first-ok : (f : Form) (cs : List Attr) → T (firstOk f cs (layout f cs))
 first-ok form.Free cs = tt
@@ -171,12 +173,12 @@ imp-no : (x y : Bool) → T (not x) → T (imp x y)
 imp-no true y h = absurd h
 imp-no false y h = tt
 
-opens-firsts : (a : Attr) (ks : List Token) → T (not (isSort block a)) → T (firstOpens ks) → T (firsts a ks)
+opens-firsts : (a : Attr) (ks : List Token) → T (not (isSort block a) && not (isSort declaration a)) → T (firstOpens ks) → T (firsts a ks)
 opens-firsts a [] n h = absurd h
 opens-firsts a (k ∷ ks) n h =
     let x : T (not (sameCode (k .code) closeBrace)) = not-t _ (not-starts closeBrace opens refl k h) in
     let y : T (not (sameCode (k .code) wordElse)) = not-t _ (not-starts wordElse opens refl k h) in
-    cond3 (isExpression a) (isStatement a) (isSort property a) _ _ _ h (and-i _ _ x (and-i _ _ y (imp-no (isSort block a) _ n))) x
+    cond3 (isExpression a) (isStatement a) (isSort property a) _ _ _ h (and-i _ _ x (and-i _ _ y (and-i _ _ (imp-no (isSort block a) _ (and-l (not (isSort block a)) _ n)) (imp-no (isSort declaration a) _ (and-r (not (isSort block a)) _ n))))) x
 
 pub le-fills : {b : Bool} {ls : Lay} {us : Forest} {ks r : List Token} {h0 h : ℕ} → Fills Claim b ls us ks r h0 h → length r ≤ length ks
 le-fills f-end = omega arith
@@ -206,14 +208,14 @@ first-facts f cs b (tok c ls) n m h (f-tok d) = record
   ; alone = λ e. mp (isExpression (attrOf f cs) && attrOf f cs .single) _ (and-r (firsts (attrOf f cs) (token c 0 0 ∷ [])) _ h) e
   }
 first-facts f cs b (kid i s ls) {ks = ks} n m h (f-kid {u = u} a d) =
-    let h2 : T (exprSite s && (not (isSort block (attrOf f cs)) && not (isExpression (attrOf f cs) && attrOf f cs .single))) = no-or (isSort script (attrOf f cs)) _ n h in
+    let h2 : T (exprSite s && ((not (isSort block (attrOf f cs)) && not (isSort declaration (attrOf f cs))) && not (isExpression (attrOf f cs) && attrOf f cs .single))) = no-or (isSort script (attrOf f cs)) _ n h in
     let ie : T (isExpression (attr u)) = site-expression s (attr u) (and-l (exprSite s) _ h2) (a .fit) in
-    let h3 : T (not (isSort block (attrOf f cs)) && not (isExpression (attrOf f cs) && attrOf f cs .single)) = and-r (exprSite s) _ h2 in
+    let h3 : T ((not (isSort block (attrOf f cs)) && not (isSort declaration (attrOf f cs))) && not (isExpression (attrOf f cs) && attrOf f cs .single)) = and-r (exprSite s) _ h2 in
     record
       { less = omega (arith, le-fills d, a .less (not-script (attr u .sort) ie))
-      ; firstly = opens-firsts (attrOf f cs) ks (and-l (not (isSort block (attrOf f cs))) _ h3) (first-opens a ie)
+      ; firstly = opens-firsts (attrOf f cs) ks (and-l (not (isSort block (attrOf f cs)) && not (isSort declaration (attrOf f cs))) _ h3) (first-opens a ie)
       ; begin = λ e. a .begin ie
-      ; alone = λ e. absurd (no-both _ e (and-r (not (isSort block (attrOf f cs))) _ h3))
+      ; alone = λ e. absurd (no-both _ e (and-r (not (isSort block (attrOf f cs)) && not (isSort declaration (attrOf f cs))) _ h3))
       }
 
 pub facts : (f : Form) (us : Forest) (b : Bool) {ks r : List Token} {h0 h : ℕ} → T (not (isSort script (attrOf f (attrs us)))) → T (not (isSort nothing (attrOf f (attrs us)))) → Fills Claim b (layout f (attrs us)) us ks r h0 h → Facts (attrOf f (attrs us)) (beginOf (layout f (attrs us)) (attrs us)) ks r

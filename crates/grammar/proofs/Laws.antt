@@ -468,6 +468,10 @@ unfolding guard ends closes
 comma-closes true = tt
 comma-closes false = tt
 
+pub in-closes-item : T (closes false slot.Assignment fIn)
+unfolding guard ends closes
+in-closes-item = tt
+
 pub in-closes : T (closes false slot.Expression fIn)
 unfolding guard ends closes
 in-closes = tt

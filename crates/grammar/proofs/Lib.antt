@@ -7,3 +7,4 @@ pub mod Balance
 pub mod First
 pub mod Expressions
 pub mod Suffixes
+pub mod Statements

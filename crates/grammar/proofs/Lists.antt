@@ -13,7 +13,7 @@ use Rattle.kinds.specs.Levels.{Standing, fits}
 use Rattle.kinds.specs.declared.form.Form.{Form}
 use Rattle.kinds.specs.declared.level.Slot.{Slot}
 use Rattle.kinds.specs.declared.level.Slot.the-variants as slot
-use Rattle.grammar.specs.Codes.{openParen, openBracket, openBrace, closeBrace, closeParen, closeBracket, comma, equals, wordElse, colon}
+use Rattle.grammar.specs.Codes.{openParen, openBracket, openBrace, closeBrace, closeParen, closeBracket, comma, equals, wordElse, wordVar, colon}
 use Rattle.grammar.specs.Site.{Sort, expression, statement, block, declaration, property, valued, script, nothing, sortRank, Attr, isSort, isExpression, isStatement, Site, at, stmt, closed, body, blockOnly, prop, plainName, isOther, ok, inHead}
 use Rattle.grammar.specs.Tree.{Head, head, headOf, Tree, Forest, node, nil, _▸_}
 use Rattle.grammar.specs.Layout.{Lay, end, tok, kid, commas, listed, run, attr, attrs, anyOpen}
@@ -139,12 +139,16 @@ closed-else false x h = tt
 pub parses-statement : {u : Tree} {ks js : List Token} → Claim stmt u ks js → starts wordElse js ≡ false → Parses true stm u ks js
 parses-statement {u} {ks} {js} a e = record { less = a .less (statement-not-script (attr u .sort) (a .fit)); done = λ n hn. a .to .via true stm (and-i (isStatement (attr u)) true (a .fit) tt) tt (no-else (attr u .dangles) _ e) .on 1 (u, js) (stop true stm u js refl) n (omega arith) }
 
+-- The last child of a statement: what stands behind the statement stands behind it.
+pub parses-last : {u : Tree} {ks js : List Token} → Claim stmt u ks js → T (not (attr u .dangles && starts wordElse js)) → Parses true stm u ks js
+parses-last {u} {ks} {js} a e = record { less = a .less (statement-not-script (attr u .sort) (a .fit)); done = λ n hn. a .to .via true stm (and-i (isStatement (attr u)) true (a .fit) tt) tt e .on 1 (u, js) (stop true stm u js refl) n (omega arith) }
+
 pub parses-closed : {u : Tree} {ks js : List Token} → Claim closed u ks js → Parses true stm u ks js
 parses-closed {u} {ks} {js} a =
     let st : T (isStatement (attr u)) = and-l (isStatement (attr u)) _ (a .fit) in
     record { less = a .less (statement-not-script (attr u .sort) st); done = λ n hn. a .to .via true stm (and-i (isStatement (attr u)) true st tt) tt (closed-else (attr u .dangles) _ (and-r (isStatement (attr u)) _ (a .fit))) .on 1 (u, js) (stop true stm u js refl) n (omega arith) }
 
-pub statement-first : {u : Tree} {ks js : List Token} → Claim stmt u ks js → T (not (atStop ks) && (not (starts wordElse ks) && imp (isSort block (attr u)) (starts openBrace ks)))
+pub statement-first : {u : Tree} {ks js : List Token} → Claim stmt u ks js → T (not (atStop ks) && (not (starts wordElse ks) && (imp (isSort block (attr u)) (starts openBrace ks) && imp (isSort declaration (attr u)) (starts wordVar ks))))
 statement-first {u} {ks} a = cond-t (isStatement (attr u)) _ _ (a .fit) (cond-f (isExpression (attr u)) (firstOpens ks) _ (statement-not-expression (attr u .sort) (a .fit)) (a .firstly))
 
 module _ (h b : Bool) (ls : Lay) (s : Do) (f : Form) (r : List Token) (hh : ℕ) (k : (us : Forest) (ks : List Token) (h0 : ℕ) → Fills Claim h ls us ks r h0 hh → (atStop ks ≡ true) × (starts wordElse ks ≡ false) × Runs b s us ks r h0 hh f) where

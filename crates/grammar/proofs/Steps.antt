@@ -15,7 +15,7 @@ use Rattle.kinds.specs.Levels.{fits}
 use Rattle.kinds.specs.declared.form.Form.{Form}
 use Rattle.kinds.specs.declared.level.Slot.{Slot}
 use Rattle.kinds.specs.declared.level.Slot.the-variants as slot
-use Rattle.grammar.specs.Codes.{openParen, openBracket, openBrace, closeBrace, comma, equals, wordElse}
+use Rattle.grammar.specs.Codes.{openParen, openBracket, openBrace, closeBrace, comma, equals, wordElse, wordVar}
 use Rattle.grammar.specs.Site.{Sort, expression, statement, block, declaration, property, valued, script, nothing, sortRank, Attr, Begin, other, isOther, isSort, isExpression, isStatement, Site, at, ok, inHead}
 use Rattle.grammar.specs.Tree.{Head, head, headOf, Tree, Forest, node, nil, _▸_}
 use Rattle.grammar.specs.Layout.{attr, codeBegin}
@@ -26,7 +26,7 @@ use Rattle.grammar.proofs.Laws.{called, guard, ends, closes, closes-ends, ends
 
 -- What the tokens of a tree begin with, by its sort.
 abbrev pub firsts : Attr → List Token → Bool
-firsts a ks = cond (isExpression a) (firstOpens ks) (cond (isStatement a) (not (atStop ks) && (not (starts wordElse ks) && imp (isSort block a) (starts openBrace ks))) (cond (isSort property a) (not (starts closeBrace ks)) true))
+firsts a ks = cond (isExpression a) (firstOpens ks) (cond (isStatement a) (not (atStop ks) && (not (starts wordElse ks) && (imp (isSort block a) (starts openBrace ks) && imp (isSort declaration a) (starts wordVar ks)))) (cond (isSort property a) (not (starts closeBrace ks)) true))
 
 abbrev pub tokenBegin : List Token → Begin
 tokenBegin [] = other
