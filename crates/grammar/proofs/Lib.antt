@@ -8,3 +8,4 @@ pub mod First
 pub mod Expressions
 pub mod Suffixes
 pub mod Statements
+pub mod Declarations
