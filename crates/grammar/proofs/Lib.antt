@@ -9,3 +9,4 @@ pub mod Expressions
 pub mod Suffixes
 pub mod Statements
 pub mod Declarations
+pub mod Every

@@ -6,3 +6,5 @@ pub mod Layout
 pub mod Derives
 pub mod Shape
 pub mod Parser
+pub mod Read
+pub mod Claim
