@@ -43,7 +43,6 @@ use Rattle.kinds.specs.declared.operator.Side.{Side}
 use Rattle.kinds.specs.declared.operator.Side.the-variants as side
 use Rattle.kinds.specs.declared.level.Slot.{Slot}
 use Rattle.kinds.specs.declared.level.Slot.the-variants as slot
-
 use Rattle.grammar.specs.Codes.{openParen, closeParen}
 use Rattle.grammar.specs.Site.{Attr, Site, isSort, valued}
 use Rattle.grammar.specs.Tree.{Tree, Forest, node, nil, _▸_}
@@ -104,7 +103,6 @@ bal-var [] d = refl
 bal-var (c ∷ cs) d = bal-cond (isSort valued c) _ _ d (some d) (bal-names cs true d) (bal-names cs false d)
 
 pub balanced : (f : Form) (cs : List Attr) (d : ℕ) → bal (layout f cs) d ≡ some d
-
 balanced form.Free cs d = refl
 balanced (form.Name b) cs d = refl
 balanced form.Num cs d = refl

@@ -44,7 +44,6 @@ use Rattle.kinds.specs.declared.operator.Side.{Side}
 use Rattle.kinds.specs.declared.operator.Side.the-variants as side
 use Rattle.kinds.specs.declared.level.Slot.{Slot}
 use Rattle.kinds.specs.declared.level.Slot.the-variants as slot
-
 use Rattle.kinds.specs.Levels.{Standing, sequence, assignment, conditional, unary, update, bareNew, optional, call, callMember, primary, member, isC, isO, isTarget, binaryStanding, fits}
 use Rattle.grammar.specs.Codes.{openParen, closeParen, openBracket, closeBracket, openBrace, closeBrace, semicolon, comma, dot, colon, question, questionDot, arrow, equals, wordThis, wordFunction, wordIn, wordNew, wordAwait, wordYield, wordVar, wordReturn, wordIf, wordElse, wordWhile, wordFor, constantCode, unaryCode, updateCode, binaryCode}
 use Rattle.grammar.specs.Site.{Sort, expression, statement, block, declaration, property, valued, script, nothing, sortRank, Begin, brace, function, other, Attr, isSort, isExpression, isStatement, isOther, isBrace, Site, at, start, body, blockOnly, stmt, closed, init, varInit, forLeft, varIn, prop, plainName, valuedName, keyName, root, ok, inHead}
@@ -64,6 +63,7 @@ on-ex {h} {t} {ks} {r} e1 e2 F = record { via = go }
   where
     sorted : (P : Sort → Bool) → P expression ≡ false → T (P (attr t .sort)) → ⊥
     sorted P e k = subst T (ap P e1 ∙ e) k
+
     go : (b : Bool) (q : Goal) → T (goes h q (attr t)) → T (b || not (attr t .bareIn)) → T (okAfter b q (attr t) r) → Through b q t ks r
     go b (ex p) g nb ga = let g2 : T (called p && fits p (attr t .standing)) = and-r (isExpression (attr t)) _ g in F b p (and-l (called p) _ g2) (and-r (called p) _ g2) nb ga
     go b stm g nb ga = absurd (sorted (λ s. eqb 1 (sortRank s) || (eqb 2 (sortRank s) || eqb 3 (sortRank s))) refl (and-l (isStatement (attr t)) _ g))
@@ -260,6 +260,7 @@ on-prop {h} {t} {ks} {r} e1 F = record { via = go }
   where
     sorted : (P : Sort → Bool) → P property ≡ false → T (P (attr t .sort)) → ⊥
     sorted P e k = subst T (ap P e1 ∙ e) k
+
     go : (b : Bool) (q : Goal) → T (goes h q (attr t)) → T (b || not (attr t .bareIn)) → T (okAfter b q (attr t) r) → Through b q t ks r
     go b (ex p) g nb ga = absurd (sorted (λ s. eqb 0 (sortRank s)) refl (and-l (isExpression (attr t)) _ g))
     go b stm g nb ga = absurd (sorted (λ s. eqb 1 (sortRank s) || (eqb 2 (sortRank s) || eqb 3 (sortRank s))) refl (and-l (isStatement (attr t)) _ g))
@@ -335,6 +336,7 @@ block-first {u = u} {ks = ks} a e =
     block-statement valued h = h
     block-statement script h = h
     block-statement nothing h = h
+
     block-not-expression : (s : Sort) → T (eqb 2 (sortRank s)) → T (not (eqb 0 (sortRank s)))
     block-not-expression expression h = h
     block-not-expression statement h = tt
@@ -382,7 +384,6 @@ unfolding attr attrs
 read-await s {r = r} (f-tok (f-kid a f-end)) =
     on-ex refl refl (λ b p cp fp nb ga. begin-eat refl (run-sub refl (parses-at tt a (nor-l b _ _ nb) (edge-unary b p (frame (next r)) cp fp ga)) (run-fin refl)))
 
-
 pub read-update : (o : UpdateOperator) (z : Side) (s : Site) {us : Forest} {ks r : List Token} {h : ℕ} → Fills Claim (inHead s) (layout (form.Update o z) (attrs us)) us ks r 0 h → To (inHead s) (node (head (form.Update o z) (loOf ks) h) us) ks r
 unfolding attr attrs
 read-update updateOp.Increment side.Before s {r = r} (f-tok (f-kid {u = u} a f-end)) =
@@ -401,13 +402,13 @@ pub read-binary : (o : BinaryOperator) (s : Site) {us : Forest} {ks r : List Tok
 unfolding attr attrs
 read-binary o s {r = r} (f-kid {u = u} a (f-tok (f-kid x f-end))) =
     on-ex refl refl (λ b p cp fp nb ga.
-      let nk = nor-r b (inOperator o) _ nb in
-      begin-frame a (at-expression a) cp
-        (subst (λ (z : After). T (takes b p (attr u .standing) (frame z))) (sym (after-binary o)) (takes-binary o b p (attr u .standing) (nor-l b (inOperator o) _ nb) (at-fits a) fp))
-        (nor-l b _ _ nk)
-        (subst (λ (z : After). T (guard b p (attr u .standing) (frame z))) (sym (after-binary o)) (guard-binary o b p (attr u .standing) (at-fits a)))
-        (ap (λ (z : After). frameDo z (attr u .standing)) (after-binary o))
-        (run-sub refl (parses-at (called-right o) x (nor-l b _ _ (nor-r b _ _ nk)) (edge-binary o b p (frame (next r)) cp fp ga)) (run-fin refl)))
+    let nk = nor-r b (inOperator o) _ nb in
+    begin-frame a (at-expression a) cp
+    (subst (λ (z : After). T (takes b p (attr u .standing) (frame z))) (sym (after-binary o)) (takes-binary o b p (attr u .standing) (nor-l b (inOperator o) _ nb) (at-fits a) fp))
+    (nor-l b _ _ nk)
+    (subst (λ (z : After). T (guard b p (attr u .standing) (frame z))) (sym (after-binary o)) (guard-binary o b p (attr u .standing) (at-fits a)))
+    (ap (λ (z : After). frameDo z (attr u .standing)) (after-binary o))
+    (run-sub refl (parses-at (called-right o) x (nor-l b _ _ (nor-r b _ _ nk)) (edge-binary o b p (frame (next r)) cp fp ga)) (run-fin refl)))
 
 pub read-assign : (o : AssignOperator) (s : Site) {us : Forest} {ks r : List Token} {h : ℕ} → Fills Claim (inHead s) (layout (form.Assign o) (attrs us)) us ks r 0 h → To (inHead s) (node (head (form.Assign o) (loOf ks) h) us) ks r
 unfolding attr attrs
@@ -426,11 +427,10 @@ pub read-seq : (s : Site) {us : Forest} {ks r : List Token} {h : ℕ} → Fills 
 unfolding attr attrs
 read-seq s {r = r} {h = h} (f-kid {u = u} a (f-tok (f-kid {us = us} x d))) =
     on-ex refl refl (λ b p cp fp nb ga.
-      let ed = edge-sequence b p (frame (next r)) cp fp ga in
-      let cl : T (closes b slot.Assignment (frame (next r))) = and-r (not (isComma (frame (next r)))) _ ed in
-      let nc : starts comma r ≡ false = no-start comma (λ z. not (isComma (frame z))) refl r (and-l (not (isComma (frame (next r)))) _ ed) in
-      let n1 = nor-r b _ _ nb in
-      begin-frame a (at-expression a) cp (and-i _ _ (at-fits a) fp) (nor-l b _ _ nb) (guard-first b p (attr u .standing) fSeq tt (at-fits a)) refl
-        (run-sub refl (parses-at tt x (nor-l b _ _ n1) (after-item (inHead s) b same (ex slot.Assignment) false (at slot.Assignment) end (fin form.Seq) form.Seq r h (closes b slot.Assignment) (λ u ks js a nb g. parses-at tt a nb g) (comma-closes b) (λ us ks h0 d. seq-end b cl nc d) (λ us ks h0 d nb. end-run d) (attrs us) d))
-          (more-runs (inHead s) b same (ex slot.Assignment) false (at slot.Assignment) end (fin form.Seq) form.Seq r h (closes b slot.Assignment) (λ u ks js a nb g. parses-at tt a nb g) (comma-closes b) (λ us ks h0 d. seq-end b cl nc d) (λ us ks h0 d nb. end-run d) (attrs us) d (nor-r b _ _ n1) (nor-r b _ _ n1))))
-
+    let ed = edge-sequence b p (frame (next r)) cp fp ga in
+    let cl : T (closes b slot.Assignment (frame (next r))) = and-r (not (isComma (frame (next r)))) _ ed in
+    let nc : starts comma r ≡ false = no-start comma (λ z. not (isComma (frame z))) refl r (and-l (not (isComma (frame (next r)))) _ ed) in
+    let n1 = nor-r b _ _ nb in
+    begin-frame a (at-expression a) cp (and-i _ _ (at-fits a) fp) (nor-l b _ _ nb) (guard-first b p (attr u .standing) fSeq tt (at-fits a)) refl
+    (run-sub refl (parses-at tt x (nor-l b _ _ n1) (after-item (inHead s) b same (ex slot.Assignment) false (at slot.Assignment) end (fin form.Seq) form.Seq r h (closes b slot.Assignment) (λ u ks js a nb g. parses-at tt a nb g) (comma-closes b) (λ us ks h0 d. seq-end b cl nc d) (λ us ks h0 d nb. end-run d) (attrs us) d))
+    (more-runs (inHead s) b same (ex slot.Assignment) false (at slot.Assignment) end (fin form.Seq) form.Seq r h (closes b slot.Assignment) (λ u ks js a nb g. parses-at tt a nb g) (comma-closes b) (λ us ks h0 d. seq-end b cl nc d) (λ us ks h0 d nb. end-run d) (attrs us) d (nor-r b _ _ n1) (nor-r b _ _ n1))))

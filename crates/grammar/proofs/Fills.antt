@@ -32,6 +32,7 @@ module _ (C : Rel) (step : Step C) where
   mutual
     pub fold : {s : Site} {t : Tree} {ks r : List Token} → Derives s t ks r → C s t ks r
     fold (derive f d) = step _ _ _ _ _ _ f (fold-all d)
+
     pub fold-all : {b : Bool} {ls : Lay} {us : Forest} {ks r : List Token} {h0 h : ℕ} → Follows b ls us ks r h0 h → Fills C b ls us ks r h0 h
     fold-all d-end = f-end
     fold-all (d-stop e) = f-stop e
@@ -44,14 +45,11 @@ Is s t ks r = T (ok s (attr t)) × Good t × (codes ks ≡ wr (inHead s) t (code
 
 is-fill : {b : Bool} {ls : Lay} {us : Forest} {ks r : List Token} {h0 h : ℕ} → Fills Is b ls us ks r h0 h → T (fitKids ls (attrs us)) × T (goods us) × (codes ks ≡ fill b ls (wrs us) (codes r))
 unfolding attrs goods wrs
-is-fill {b = true} f-end = (tt, tt, refl)
-is-fill {b = false} f-end = (tt, tt, refl)
+is-fill f-end = (tt, tt, refl)
 is-fill {b = true} (f-stop e) = (tt, tt, ap codes (e .0))
 is-fill {b = false} (f-stop e) = (tt, tt, ap codes (e .1))
-is-fill {b = true} (f-tok d) = let (f2, g2, w2) = is-fill d in (f2, g2, (cc))
-is-fill {b = false} (f-tok d) = let (f2, g2, w2) = is-fill d in (f2, g2, (cc))
-is-fill {b = true} (f-kid (f, g, w) d) = let (f2, g2, w2) = is-fill d in (and-i _ _ f f2, and-i _ _ g g2, (cc))
-is-fill {b = false} (f-kid (f, g, w) d) = let (f2, g2, w2) = is-fill d in (and-i _ _ f f2, and-i _ _ g g2, (cc))
+is-fill (f-tok d) = let (f2, g2, w2) = is-fill d in (f2, g2, (cc))
+is-fill (f-kid (f, g, w) d) = let (f2, g2, w2) = is-fill d in (and-i _ _ f f2, and-i _ _ g g2, (cc))
 
 is-step : Step Is
 unfolding good wr attr

@@ -44,7 +44,6 @@ use Rattle.kinds.specs.declared.operator.Side.{Side}
 use Rattle.kinds.specs.declared.operator.Side.the-variants as side
 use Rattle.kinds.specs.declared.level.Slot.{Slot}
 use Rattle.kinds.specs.declared.level.Slot.the-variants as slot
-
 use Rattle.kinds.specs.Levels.{fits}
 use Rattle.grammar.specs.Codes.{openParen, openBracket, openBrace, closeBrace, wordElse}
 use Rattle.grammar.specs.Site.{Sort, Begin, script, declaration, block, nothing, property, Attr, isSort, isExpression, isStatement, isOther, isBrace, Site, at, start, body, blockOnly, stmt, closed, init, varInit, forLeft, varIn, prop, plainName, valuedName, keyName, root, ok}
@@ -201,23 +200,22 @@ first-facts : (f : Form) (cs : List Attr) (b : Bool) (ls : Lay) {us : Forest} {k
 unfolding attrs
 first-facts f cs b end n m h f-end = absurd (no-both _ (no-or (isSort script (attrOf f cs)) _ n h) m)
 first-facts f cs b stop n m h d = absurd h
-first-facts f cs b (tok c ls) n m h (f-tok d) = record
-  { less = omega (arith, le-fills d)
-  ; firstly = and-l (firsts (attrOf f cs) (token c 0 0 ∷ [])) _ h
-  ; begin = λ e. refl
-  ; alone = λ e. mp (isExpression (attrOf f cs) && attrOf f cs .single) _ (and-r (firsts (attrOf f cs) (token c 0 0 ∷ [])) _ h) e
-  }
+first-facts f cs b (tok c ls) n m h (f-tok d) = record {
+  less = omega (arith, le-fills d);
+  firstly = and-l (firsts (attrOf f cs) (token c 0 0 ∷ [])) _ h;
+  begin = λ e. refl;
+  alone = λ e. mp (isExpression (attrOf f cs) && attrOf f cs .single) _ (and-r (firsts (attrOf f cs) (token c 0 0 ∷ [])) _ h) e;
+}
 first-facts f cs b (kid i s ls) {ks = ks} n m h (f-kid {u = u} a d) =
     let h2 : T (exprSite s && ((not (isSort block (attrOf f cs)) && not (isSort declaration (attrOf f cs))) && not (isExpression (attrOf f cs) && attrOf f cs .single))) = no-or (isSort script (attrOf f cs)) _ n h in
     let ie : T (isExpression (attr u)) = site-expression s (attr u) (and-l (exprSite s) _ h2) (a .fit) in
     let h3 : T ((not (isSort block (attrOf f cs)) && not (isSort declaration (attrOf f cs))) && not (isExpression (attrOf f cs) && attrOf f cs .single)) = and-r (exprSite s) _ h2 in
-    record
-      { less = omega (arith, le-fills d, a .less (not-script (attr u .sort) ie))
-      ; firstly = opens-firsts (attrOf f cs) ks (and-l (not (isSort block (attrOf f cs)) && not (isSort declaration (attrOf f cs))) _ h3) (first-opens a ie)
-      ; begin = λ e. a .begin ie
-      ; alone = λ e. absurd (no-both _ e (and-r (not (isSort block (attrOf f cs)) && not (isSort declaration (attrOf f cs))) _ h3))
-      }
+    record {
+      less = omega (arith, le-fills d, a .less (not-script (attr u .sort) ie));
+      firstly = opens-firsts (attrOf f cs) ks (and-l (not (isSort block (attrOf f cs)) && not (isSort declaration (attrOf f cs))) _ h3) (first-opens a ie);
+      begin = λ e. a .begin ie;
+      alone = λ e. absurd (no-both _ e (and-r (not (isSort block (attrOf f cs)) && not (isSort declaration (attrOf f cs))) _ h3));
+    }
 
 pub facts : (f : Form) (us : Forest) (b : Bool) {ks r : List Token} {h0 h : ℕ} → T (not (isSort script (attrOf f (attrs us)))) → T (not (isSort nothing (attrOf f (attrs us)))) → Fills Claim b (layout f (attrs us)) us ks r h0 h → Facts (attrOf f (attrs us)) (beginOf (layout f (attrs us)) (attrs us)) ks r
 facts f us b n m d = first-facts f (attrs us) b (layout f (attrs us)) n m (first-ok f (attrs us)) d
-

@@ -342,8 +342,8 @@ closureAt b p s g = imp (called p && takes b p s g) (fits p s)
 pub closure : (b : Bool) (p : Slot) (s : Standing) (g : Frame) → T (called p) → T (takes b p s g) → T (fits p s)
 closure b p s g c h =
     mp (called p && takes b p s g) (fits p s)
-      (at-frame (closureAt b p s) (at-standing (λ s. all (closureAt b p s) frames) (at-slot (λ p. all (λ s. all (closureAt b p s) frames) standings) (at-bool (λ b. all (λ p. all (λ s. all (closureAt b p s) frames) standings) slots) tt b) p) s) g)
-      (and-i (called p) _ c h)
+    (at-frame (closureAt b p s) (at-standing (λ s. all (closureAt b p s) frames) (at-slot (λ p. all (λ s. all (closureAt b p s) frames) standings) (at-bool (λ b. all (λ p. all (λ s. all (closureAt b p s) frames) standings) slots) tt b) p) s) g)
+    (and-i (called p) _ c h)
 
 -- A form of the standing k that ends with a child in the slot q: what may stand behind it ends the child.
 abbrev edgeAt : Standing → Slot → Bool → Slot → Frame → Bool
@@ -355,8 +355,8 @@ edgeOf k q = all (λ b. all (λ p. all (edgeAt k q b p) frames) slots) bools
 edge-at : (k : Standing) (q : Slot) → T (edgeOf k q) → (b : Bool) (p : Slot) (g : Frame) → T (called p) → T (fits p k) → T (guard b p k g) → T (closes b q g)
 edge-at k q h b p g c f d =
     mp (called p && (fits p k && guard b p k g)) (closes b q g)
-      (at-frame (edgeAt k q b p) (at-slot (λ p. all (edgeAt k q b p) frames) (at-bool (λ b. all (λ p. all (edgeAt k q b p) frames) slots) h b) p) g)
-      (and-i (called p) _ c (and-i (fits p k) _ f d))
+    (at-frame (edgeAt k q b p) (at-slot (λ p. all (edgeAt k q b p) frames) (at-bool (λ b. all (λ p. all (edgeAt k q b p) frames) slots) h b) p) g)
+    (and-i (called p) _ c (and-i (fits p k) _ f d))
 
 pub edge-unary : (b : Bool) (p : Slot) (g : Frame) → T (called p) → T (fits p unary) → T (guard b p unary g) → T (closes b slot.Unary g)
 unfolding guard ends closes
@@ -417,8 +417,8 @@ pub edge-sequence : (b : Bool) (p : Slot) (g : Frame) → T (called p) → T (fi
 unfolding guard ends closes
 edge-sequence b p g c f d =
     mp (called p && (fits p sequence && guard b p sequence g)) (not (isComma g) && closes b slot.Assignment g)
-      (at-frame (seqAt b p) (at-slot (λ p. all (seqAt b p) frames) (at-bool (λ b. all (λ p. all (seqAt b p) frames) slots) tt b) p) g)
-      (and-i (called p) _ c (and-i (fits p sequence) _ f d))
+    (at-frame (seqAt b p) (at-slot (λ p. all (seqAt b p) frames) (at-bool (λ b. all (λ p. all (seqAt b p) frames) slots) tt b) p) g)
+    (and-i (called p) _ c (and-i (fits p sequence) _ f d))
 
 -- A Name that ends its form is ended by whatever may stand behind an expression.
 abbrev nameAt : Frame → Bool
@@ -452,8 +452,8 @@ pub no-operand : (b : Bool) (p : Slot) (g : Frame) → T (called p) → T (fits 
 unfolding guard
 no-operand b p g c f d =
     mp (called p && (fits p assignment && guard b p assignment g)) (not (isBoth g))
-      (at-frame (yieldAt b p) (at-slot (λ p. all (yieldAt b p) frames) (at-bool (λ b. all (λ p. all (yieldAt b p) frames) slots) tt b) p) g)
-      (and-i (called p) _ c (and-i (fits p assignment) _ f d))
+    (at-frame (yieldAt b p) (at-slot (λ p. all (yieldAt b p) frames) (at-bool (λ b. all (λ p. all (yieldAt b p) frames) slots) tt b) p) g)
+    (and-i (called p) _ c (and-i (fits p assignment) _ f d))
 
 -- What ends an expression of each slot: a closing token; a comma, an item.
 abbrev endAt : Bool → Slot → Bool

@@ -10,3 +10,5 @@ pub mod Suffixes
 pub mod Statements
 pub mod Declarations
 pub mod Every
+pub mod Shapes
+pub mod Exact

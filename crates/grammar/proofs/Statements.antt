@@ -44,7 +44,6 @@ use Rattle.kinds.specs.declared.operator.Side.{Side}
 use Rattle.kinds.specs.declared.operator.Side.the-variants as side
 use Rattle.kinds.specs.declared.level.Slot.{Slot}
 use Rattle.kinds.specs.declared.level.Slot.the-variants as slot
-
 use Rattle.kinds.specs.Levels.{Standing, sequence, assignment, conditional, unary, update, bareNew, optional, call, callMember, primary, member, isC, isO, isTarget, binaryStanding, fits}
 use Rattle.grammar.specs.Codes.{openParen, closeParen, openBracket, closeBracket, openBrace, closeBrace, semicolon, comma, dot, colon, question, questionDot, arrow, equals, wordThis, wordFunction, wordIn, wordNew, wordAwait, wordYield, wordVar, wordReturn, wordIf, wordElse, wordWhile, wordFor, constantCode, unaryCode, updateCode, binaryCode}
 use Rattle.grammar.specs.Site.{Sort, expression, statement, block, declaration, property, valued, script, nothing, sortRank, Begin, brace, Attr, isSort, isExpression, isStatement, isOther, isBrace, Site, at, start, body, blockOnly, stmt, closed, init, varInit, forLeft, varIn, prop, plainName, valuedName, keyName, root, ok, inHead}
@@ -66,10 +65,12 @@ on-stm {h} {t} {ks} {r} e1 F = record { via = go }
   where
     sorted : (P : Sort → Bool) → P statement ≡ false → T (P (attr t .sort)) → ⊥
     sorted P e k = subst T (ap P e1 ∙ e) k
+
     named : (x y z : Bool) → (T x → ⊥) → (T y → ⊥) → T (x || (y && z)) → ⊥
     named true y z n m k = n tt
     named false true z n m k = m tt
     named false false z n m k = k
+
     go : (b : Bool) (q : Goal) → T (goes h q (attr t)) → T (b || not (attr t .bareIn)) → T (okAfter b q (attr t) r) → Through b q t ks r
     go b (ex p) g nb ga = absurd (sorted (λ s. eqb 0 (sortRank s)) refl (and-l (isExpression (attr t)) _ g))
     go b stm g nb ga = F b ga
@@ -117,8 +118,8 @@ read-if s {us = nil} (f-tok (f-tok d)) = elim d [ ]
 read-if s {us = e ▸ nil} (f-tok (f-tok (f-kid a (f-tok d)))) = elim d [ ]
 read-if s {us = e ▸ (x ▸ nil)} {r = r} (f-tok (f-tok (f-kid a (f-tok (f-kid y f-end))))) =
     on-stm refl (λ b ga.
-      let n : starts wordElse r ≡ false = is-false _ ga in
-      begin-eat refl (run-eat refl (run-sub refl (parses-at tt a tt (end-closes true slot.Expression)) (run-eat refl (run-sub refl (parses-statement y n) (run-else n (run-fin refl)))))))
+    let n : starts wordElse r ≡ false = is-false _ ga in
+    begin-eat refl (run-eat refl (run-sub refl (parses-at tt a tt (end-closes true slot.Expression)) (run-eat refl (run-sub refl (parses-statement y n) (run-else n (run-fin refl)))))))
 read-if s {us = e ▸ (x ▸ (z ▸ us))} (f-tok (f-tok (f-kid a (f-tok (f-kid y (f-tok (f-kid w f-end))))))) =
     on-stm refl (λ b ga. begin-eat refl (run-eat refl (run-sub refl (parses-at tt a tt (end-closes true slot.Expression)) (run-eat refl (run-sub refl (parses-closed y) (run-eat refl (run-sub refl (parses-last w ga) (run-fin refl))))))))
 
@@ -132,6 +133,7 @@ read-block s {us} {ks} {r} {h} (f-tok {ks = js} {l = l} {i = i} d) = record { vi
   where
     all : (b : Bool) → Runs b (stms (eat closeBrace (fin form.Block))) us js r i h form.Block
     all b = statements-run (inHead s) b (tok closeBrace end) (eat closeBrace (fin form.Block)) form.Block r h (λ us ks h0 d. block-end d) (attrs us) d
+
     go : (b : Bool) (q : Goal) → T (goes (inHead s) q (attr (node (head form.Block l h) us))) → T (b || not (attr (node (head form.Block l h) us) .bareIn)) → T (okAfter b q (attr (node (head form.Block l h) us)) r) → Through b q (node (head form.Block l h) us) (token openBrace l i ∷ js) r
     go b (ex p) g nb ga = absurd g
     go b stm g nb ga = begin-eat refl (all b)

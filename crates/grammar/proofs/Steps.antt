@@ -201,10 +201,12 @@ begin-frame {s0} {u} {us} {c} {l} {i} {h} {ks} {js} {r} {f} {b} {p} {s} a ie cp 
   where
     on : goesOn b (ex p) (attr u) (frame (after c)) ≡ true
     on = is-true _ (and-i (isExpression (attr u)) _ ie tk)
+
     go : (N : ℕ) (x : Tree × List Token) → ((m : ℕ) → N ≤ m → loop m b (ex p) (node (head f (headOf u .lo) h) (u ▸ us)) r ≡ some x) → (m : ℕ) → N + 8 * length (token c l i ∷ js) - 8 * length r ≤ m → loop m b (ex p) u (token c l i ∷ js) ≡ some x
     go N x k zero hm = absurd (omega (arith, d .le))
     go N x k (suc zero) hm = absurd (omega (arith, d .le))
     go N x k (suc (suc m)) hm = rw (on, e, same-true c, d .done m (omega (arith, d .le))) (k (suc m) (omega (arith, d .le)))
+
     all : (N : ℕ) (x : Tree × List Token) → ((m : ℕ) → N ≤ m → loop m b (ex p) (node (head f (loOf ks) h) (u ▸ us)) r ≡ some x) → (n : ℕ) → N + 8 * length ks ≤ n + 8 * length r → parse n b (ex p) ks ≡ some x
     all N x k n z =
         a .to .via b (ex p) (and-i (isExpression (attr u)) _ ie (and-i (called p) _ cp (closure b p (attr u .standing) (frame (after c)) cp tk))) nb ga .on (N + 8 * length (token c l i ∷ js) - 8 * length r) x (go N x (λ m hm. rw (a .lo) (k m hm))) n (omega (arith, d .le, a .le))

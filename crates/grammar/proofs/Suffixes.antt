@@ -44,7 +44,6 @@ use Rattle.kinds.specs.declared.operator.Side.{Side}
 use Rattle.kinds.specs.declared.operator.Side.the-variants as side
 use Rattle.kinds.specs.declared.level.Slot.{Slot}
 use Rattle.kinds.specs.declared.level.Slot.the-variants as slot
-
 use Rattle.kinds.specs.Levels.{Standing, sequence, assignment, conditional, unary, update, bareNew, optional, call, callMember, primary, member, isC, isO, isTarget, binaryStanding, fits}
 use Rattle.grammar.specs.Codes.{openParen, closeParen, openBracket, closeBracket, openBrace, closeBrace, semicolon, comma, dot, colon, question, questionDot, arrow, equals, wordThis, wordFunction, wordIn, wordNew, wordAwait, wordYield, wordVar, wordReturn, wordIf, wordElse, wordWhile, wordFor, constantCode, unaryCode, updateCode, binaryCode}
 use Rattle.grammar.specs.Site.{Sort, expression, statement, block, declaration, property, valued, script, nothing, sortRank, Begin, brace, Attr, isSort, isExpression, isStatement, isOther, isBrace, Site, at, start, body, blockOnly, stmt, closed, init, varInit, forLeft, varIn, prop, plainName, valuedName, keyName, root, ok, inHead}
@@ -268,13 +267,13 @@ read-name binding.Valued s {us} {ks} {r} {h} (f-tok {l = l} {i = i} f-end) = rec
     go b nam g nb ga = let e : starts equals r ≡ true = is-true _ ga in begin-eat (name-prefix binding.Valued l i r (rw e)) (run-fin refl)
     go b scr g nb ga = absurd g
 
-
 -- A number and a string are single tokens, and no Names.
 on-literal : {h : Bool} {t : Tree} {ks r : List Token} → attr t .sort ≡ expression → fits slot.Identifier (attr t .standing) ≡ false → ((b : Bool) (p : Slot) → T (called p) → Through b (ex p) t ks r) → To h t ks r
 on-literal {h} {t} {ks} {r} e1 e2 F = record { via = go }
   where
     sorted : (P : Sort → Bool) → P expression ≡ false → T (P (attr t .sort)) → ⊥
     sorted P e k = subst T (ap P e1 ∙ e) k
+
     go : (b : Bool) (q : Goal) → T (goes h q (attr t)) → T (b || not (attr t .bareIn)) → T (okAfter b q (attr t) r) → Through b q t ks r
     go b (ex p) g nb ga = F b p (and-l (called p) _ (and-r (isExpression (attr t)) _ g))
     go b stm g nb ga = absurd (sorted (λ s. eqb 1 (sortRank s) || (eqb 2 (sortRank s) || eqb 3 (sortRank s))) refl (and-l (isStatement (attr t)) _ g))
@@ -307,4 +306,3 @@ read-word constant.False s (f-tok f-end) = on-ex refl refl (λ b p cp fp nb ga. 
 pub read-this : (s : Site) {us : Forest} {ks r : List Token} {h : ℕ} → Fills Claim (inHead s) (layout form.This (attrs us)) us ks r 0 h → To (inHead s) (node (head form.This (loOf ks) h) us) ks r
 unfolding attr attrs
 read-this s (f-tok f-end) = on-ex refl refl (λ b p cp fp nb ga. begin-eat refl (run-fin refl))
-

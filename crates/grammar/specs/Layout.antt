@@ -483,18 +483,19 @@ firstStanding [] = primary
 firstStanding (c ∷ cs) = c .standing
 
 abbrev pub attrOf : Form → List Attr → Attr
-attrOf f cs = record
-  { sort = sortOf f
-  ; standing = standing f (isC (firstStanding cs)) (isTarget (firstStanding cs))
-  ; bareIn = isIn f || anyOpen (layout f cs) cs
-  ; begin = beginOf (layout f cs) cs
-  ; dangles = danglesOf f cs
-  ; single = singleOf f cs
-  }
+attrOf f cs = record {
+  sort = sortOf f;
+  standing = standing f (isC (firstStanding cs)) (isTarget (firstStanding cs));
+  bareIn = isIn f || anyOpen (layout f cs) cs;
+  begin = beginOf (layout f cs) cs;
+  dangles = danglesOf f cs;
+  single = singleOf f cs;
+}
 
 unfoldable mutual
   pub attr : Tree → Attr
   attr (node h us) = attrOf (h .form) (attrs us)
+
   pub attrs : Forest → List Attr
   attrs nil = []
   attrs (u ▸ us) = attr u ∷ attrs us
@@ -511,6 +512,7 @@ fitKids (kid i s ls) (c ∷ cs) = ok s c && fitKids ls cs
 unfoldable mutual
   pub good : Tree → Bool
   good (node h us) = fitKids (layout (h .form) (attrs us)) (attrs us) && goods us
+
   pub goods : Forest → Bool
   goods nil = true
   goods (u ▸ us) = good u && goods us
@@ -522,10 +524,13 @@ Good t = T (good t)
 abbrev pub Text : Type 0
 Text = Bool → List Code → List Code
 
+abbrev pub stopped : Bool → List Code → List Code
+stopped true k = k
+stopped false k = semicolon ∷ k
+
 abbrev pub fill : Bool → Lay → List Text → List Code → List Code
 fill h end ws k = k
-fill true stop ws k = k
-fill false stop ws k = semicolon ∷ k
+fill h stop ws k = stopped h k
 fill h (tok j ls) ws k = j ∷ fill h ls ws k
 fill h (kid i s ls) [] k = fill h ls [] k
 fill h (kid i s ls) (w ∷ ws) k = w (inHead s) (fill h ls ws k)
@@ -533,6 +538,7 @@ fill h (kid i s ls) (w ∷ ws) k = w (inHead s) (fill h ls ws k)
 unfoldable mutual
   pub wr : Bool → Tree → List Code → List Code
   wr h (node d us) k = fill h (layout (d .form) (attrs us)) (wrs us) k
+
   pub wrs : Forest → List Text
   wrs nil = []
   wrs (u ▸ us) = (λ h k. wr h u k) ∷ wrs us

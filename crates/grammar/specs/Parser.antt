@@ -54,7 +54,6 @@ use Rattle.kinds.specs.declared.operator.Side.{Side}
 use Rattle.kinds.specs.declared.operator.Side.the-variants as side
 use Rattle.kinds.specs.declared.level.Slot.{Slot}
 use Rattle.kinds.specs.declared.level.Slot.the-variants as slot
-
 use Rattle.grammar.specs.Codes.{openParen, closeParen, openBracket, closeBracket, openBrace, closeBrace, semicolon, comma, dot, colon, question, questionDot, arrow, equals, wordThis, wordFunction, wordIn, wordNew, wordAwait, wordYield, wordVar, wordReturn, wordIf, wordElse, wordWhile, wordFor, constantCode, unaryCode, updateCode, binaryCode}
 use Rattle.grammar.specs.Site.{Attr, isSort, isExpression}
 use Rattle.grammar.specs.Tree.{Head, head, headOf, Tree, Forest, node, nil, _▸_}
@@ -630,8 +629,8 @@ unfoldable mutual
   loop zero b q t ks = none
   loop (suc n) b q t ks =
       cond (goesOn b q (attr t) (frame (next ks)))
-        (bind (perform n b (frameDo (next ks) (attr t .standing)) (headOf t .hi) ks) λ y. loop n b q (grownOn t y) (y .left))
-        (some (t, ks))
+      (bind (perform n b (frameDo (next ks) (attr t .standing)) (headOf t .hi) ks) λ y. loop n b q (grownOn t y) (y .left))
+      (some (t, ks))
 
   pub perform : ℕ → Bool → Do → ℕ → List Token → Option Ran
   perform zero b s h ks = none

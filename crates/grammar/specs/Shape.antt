@@ -16,6 +16,7 @@ codes (k ∷ ks) = k .code ∷ codes ks
 unfoldable mutual
   pub shape : Tree → Tree
   shape (node h us) = node (head (h .form) 0 0) (shapes us)
+
   pub shapes : Forest → Forest
   shapes nil = nil
   shapes (u ▸ us) = shape u ▸ shapes us

@@ -19,13 +19,13 @@ pub record Head : Type 0 where
 mutual
   pub data Tree : Type 0 where
     node : Head → Forest → Tree
+
   pub data Forest : Type 0 where
     nil : Forest
     _▸_ : Tree → Forest → Forest
 
 infixr 60 _▸_
 infixr 55 _⊕_
-
 abbrev pub _⊕_ : Forest → Forest → Forest
 nil ⊕ vs = vs
 (u ▸ us) ⊕ vs = u ▸ (us ⊕ vs)
@@ -39,6 +39,7 @@ head f l h = record { form = f; lo = l; hi = h }
 unfoldable mutual
   pub size : Tree → ℕ
   size (node h us) = 1 + sizes us
+
   pub sizes : Forest → ℕ
   sizes nil = 0
   sizes (u ▸ us) = size u + sizes us
@@ -46,6 +47,7 @@ unfoldable mutual
 unfoldable mutual
   pub depth : Tree → ℕ
   depth (node h us) = 1 + depths us
+
   pub depths : Forest → ℕ
   depths nil = 0
   depths (u ▸ us) = max (depth u) (depths us)
@@ -53,6 +55,7 @@ unfoldable mutual
 unfoldable mutual
   pub walk : Tree → List Head
   walk (node h us) = h ∷ walks us
+
   pub walks : Forest → List Head
   walks nil = []
   walks (u ▸ us) = walk u ++ walks us
