@@ -12,3 +12,4 @@ pub mod Declarations
 pub mod Every
 pub mod Shapes
 pub mod Exact
+pub mod Worked

@@ -8,3 +8,4 @@ pub mod Shape
 pub mod Parser
 pub mod Read
 pub mod Claim
+pub mod Examples
