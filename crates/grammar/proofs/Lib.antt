@@ -13,3 +13,6 @@ pub mod Every
 pub mod Shapes
 pub mod Exact
 pub mod Worked
+pub mod CoreParts
+pub mod CoreForm
+pub mod CoreGood

@@ -9,3 +9,5 @@ pub mod Parser
 pub mod Read
 pub mod Claim
 pub mod Examples
+pub mod Core
+pub mod Rewriting

@@ -1,5 +1,6 @@
 // The grammar of rules, and that no token list has two readings. The definitions stand in `specs`; each function here carries one law.
 
+ghost use Rattle.grammar.specs.Rewriting.{Core-law, Good-full};
 ghost use Rattle.grammar.specs.Examples.{Examples-hold};
 ghost use Rattle.grammar.specs.Claim.{Unambiguous, Read-derives, Derived-good, Good-derives};
 
@@ -34,6 +35,20 @@ pub fn good_is_derived() -> u8
 /// The worked examples read as they are written down.
 pub fn examples_hold() -> u8
     ensures { λ _. ⌜ Examples-hold ⌝ }
+{
+    0
+}
+
+/// The core form of a tree is what its rules come to, in whatever order they are applied, and nothing changes it any more.
+pub fn core_form_law() -> u8
+    ensures { λ _. ⌜ Core-law ⌝ }
+{
+    0
+}
+
+/// No good tree has an empty sequence, so the law of the core form speaks of every good tree.
+pub fn good_is_full() -> u8
+    ensures { λ _. ⌜ Good-full ⌝ }
 {
     0
 }
