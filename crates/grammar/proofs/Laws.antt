@@ -15,7 +15,7 @@ use Rattle.grammar.specs.Parser.{Frame, fSeq, fAsg, fCnd, fNul, fOr, fAnd, fBo
 use Rattle.grammar.proofs.Tests.{and-l, and-r, and-i, or-l, or-r, is-true, is-false, imp, mp}
 
 -- A test of every element, and what it says of the element at a place.
-abbrev all : {A : Type 0} → (A → Bool) → List A → Bool
+abbrev pub all : {A : Type 0} → (A → Bool) → List A → Bool
 all P [] = true
 all P (x ∷ xs) = P x && all P xs
 
@@ -33,10 +33,10 @@ pick P [] n h = tt
 pick P (x ∷ xs) zero h = and-l (P x) _ h
 pick P (x ∷ xs) (suc n) h = pick P xs n (and-r (P x) _ h)
 
-abbrev standings : List Standing
+abbrev pub standings : List Standing
 standings = sequence ∷ assignment ∷ conditional ∷ coalescing ∷ disjunction ∷ conjunction ∷ bitOr ∷ bitXor ∷ bitAnd ∷ equality ∷ relation ∷ shift ∷ sum ∷ product ∷ power ∷ unary ∷ update ∷ bareNew ∷ optional ∷ call ∷ callMember ∷ primary ∷ literal ∷ member ∷ name ∷ []
 
-at-standing : (P : Standing → Bool) → T (all P standings) → (x : Standing) → T (P x)
+pub at-standing : (P : Standing → Bool) → T (all P standings) → (x : Standing) → T (P x)
 at-standing P h sequence = pick P standings 0 h
 at-standing P h assignment = pick P standings 1 h
 at-standing P h conditional = pick P standings 2 h
@@ -63,10 +63,10 @@ at-standing P h literal = pick P standings 22 h
 at-standing P h member = pick P standings 23 h
 at-standing P h name = pick P standings 24 h
 
-abbrev slots : List Slot
+abbrev pub slots : List Slot
 slots = slot.Expression ∷ slot.Assignment ∷ slot.ShortCircuit ∷ slot.LogicalOr ∷ slot.Coalesce ∷ slot.LogicalAnd ∷ slot.BitwiseOr ∷ slot.BitwiseXor ∷ slot.BitwiseAnd ∷ slot.Equality ∷ slot.Relational ∷ slot.Shift ∷ slot.Additive ∷ slot.Multiplicative ∷ slot.Exponentiation ∷ slot.Unary ∷ slot.Update ∷ slot.New ∷ slot.Member ∷ slot.Call ∷ slot.Optional ∷ slot.Chain ∷ slot.Target ∷ slot.Identifier ∷ slot.PropertyName ∷ []
 
-at-slot : (P : Slot → Bool) → T (all P slots) → (x : Slot) → T (P x)
+pub at-slot : (P : Slot → Bool) → T (all P slots) → (x : Slot) → T (P x)
 at-slot P h slot.Expression = pick P slots 0 h
 at-slot P h slot.Assignment = pick P slots 1 h
 at-slot P h slot.ShortCircuit = pick P slots 2 h
@@ -93,10 +93,10 @@ at-slot P h slot.Target = pick P slots 22 h
 at-slot P h slot.Identifier = pick P slots 23 h
 at-slot P h slot.PropertyName = pick P slots 24 h
 
-abbrev frames : List Frame
+abbrev pub frames : List Frame
 frames = fSeq ∷ fAsg ∷ fCnd ∷ fNul ∷ fOr ∷ fAnd ∷ fBor ∷ fXor ∷ fBand ∷ fEq ∷ fRel ∷ fIn ∷ fShf ∷ fAdd ∷ fMul ∷ fPow ∷ fPost ∷ fMem ∷ fCall ∷ fLink ∷ fEnd ∷ fNever ∷ []
 
-at-frame : (P : Frame → Bool) → T (all P frames) → (x : Frame) → T (P x)
+pub at-frame : (P : Frame → Bool) → T (all P frames) → (x : Frame) → T (P x)
 at-frame P h fSeq = pick P frames 0 h
 at-frame P h fAsg = pick P frames 1 h
 at-frame P h fCnd = pick P frames 2 h

@@ -16,3 +16,4 @@ pub mod Worked
 pub mod CoreParts
 pub mod CoreForm
 pub mod CoreGood
+pub mod Document

@@ -11,3 +11,4 @@ pub mod Claim
 pub mod Examples
 pub mod Core
 pub mod Rewriting
+pub mod Productions

@@ -1,6 +1,7 @@
 // The grammar of rules, and that no token list has two readings. The definitions stand in `specs`; each function here carries one law.
 
 ghost use Rattle.grammar.specs.Rewriting.{Core-law, Good-full};
+ghost use Rattle.grammar.specs.Productions.{Units, Productions, Lists};
 ghost use Rattle.grammar.specs.Examples.{Examples-hold};
 ghost use Rattle.grammar.specs.Claim.{Unambiguous, Read-derives, Derived-good, Good-derives};
 
@@ -49,6 +50,15 @@ pub fn core_form_law() -> u8
 /// No good tree has an empty sequence, so the law of the core form speaks of every good tree.
 pub fn good_is_full() -> u8
     ensures { λ _. ⌜ Good-full ⌝ }
+{
+    0
+}
+
+/// The productions of ECMA-262 that are in scope hold of the grammar, each under its name there.
+pub fn productions_hold() -> u8
+    ensures units { λ _. ⌜ Units ⌝ }
+    ensures productions { λ _. ⌜ Productions ⌝ }
+    ensures lists { λ _. ⌜ Lists ⌝ }
 {
     0
 }
