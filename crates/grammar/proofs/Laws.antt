@@ -10,7 +10,7 @@ use Rattle.kinds.specs.declared.level.Slot.{Slot}
 use Rattle.kinds.specs.declared.level.Slot.the-variants as slot
 use Rattle.kinds.specs.declared.operator.BinaryOperator.{BinaryOperator}
 use Rattle.kinds.specs.declared.operator.BinaryOperator.the-variants as binary
-use Rattle.grammar.specs.Layout.{rightSlot}
+use Rattle.kinds.specs.Levels.{rightSlot}
 use Rattle.grammar.specs.Parser.{Frame, fSeq, fAsg, fCnd, fNul, fOr, fAnd, fBor, fXor, fBand, fEq, fRel, fIn, fShf, fAdd, fMul, fPow, fPost, fMem, fCall, fLink, fEnd, fNever, firstSlot, grown, isFrame, takes}
 use Rattle.grammar.proofs.Tests.{and-l, and-r, and-i, or-l, or-r, is-true, is-false, imp, mp}
 

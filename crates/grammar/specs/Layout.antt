@@ -18,7 +18,7 @@ use lib.Dec.{T, eqb}
 use Rattle.token.specs.Same.{sameCode}
 use Rattle.token.specs.declared.Code.{Code}
 use Rattle.token.specs.declared.Code.the-variants as code
-use Rattle.kinds.specs.Levels.{Standing, primary, standing, isC, isTarget}
+use Rattle.kinds.specs.Levels.{Standing, primary, standing, isC, isTarget, leftSlot, rightSlot}
 use Rattle.kinds.specs.declared.form.Form.{Form}
 use Rattle.kinds.specs.declared.form.Form.the-variants as form
 use Rattle.kinds.specs.declared.form.Binding.{Binding}
@@ -105,60 +105,6 @@ fnOf own.Named cs = child plainName (parameters (butLast (rest cs)) (inside bloc
 abbrev pub updateOf : Side → Code → Lay
 updateOf side.Before c = tok c (child (at slot.Target) end)
 updateOf side.After c = child (at slot.Target) (tok c end)
-
-abbrev pub leftSlot : BinaryOperator → Slot
-leftSlot binary.Coalesce = slot.Coalesce
-leftSlot binary.Or = slot.LogicalOr
-leftSlot binary.And = slot.LogicalAnd
-leftSlot binary.BitOr = slot.BitwiseOr
-leftSlot binary.BitXor = slot.BitwiseXor
-leftSlot binary.BitAnd = slot.BitwiseAnd
-leftSlot binary.Equal = slot.Equality
-leftSlot binary.NotEqual = slot.Equality
-leftSlot binary.StrictEqual = slot.Equality
-leftSlot binary.StrictNotEqual = slot.Equality
-leftSlot binary.Less = slot.Relational
-leftSlot binary.LessOrEqual = slot.Relational
-leftSlot binary.Greater = slot.Relational
-leftSlot binary.GreaterOrEqual = slot.Relational
-leftSlot binary.In = slot.Relational
-leftSlot binary.Instanceof = slot.Relational
-leftSlot binary.LeftShift = slot.Shift
-leftSlot binary.RightShift = slot.Shift
-leftSlot binary.UnsignedRightShift = slot.Shift
-leftSlot binary.Add = slot.Additive
-leftSlot binary.Subtract = slot.Additive
-leftSlot binary.Multiply = slot.Multiplicative
-leftSlot binary.Divide = slot.Multiplicative
-leftSlot binary.Remainder = slot.Multiplicative
-leftSlot binary.Exponent = slot.Update
-
-abbrev pub rightSlot : BinaryOperator → Slot
-rightSlot binary.Coalesce = slot.BitwiseOr
-rightSlot binary.Or = slot.LogicalAnd
-rightSlot binary.And = slot.BitwiseOr
-rightSlot binary.BitOr = slot.BitwiseXor
-rightSlot binary.BitXor = slot.BitwiseAnd
-rightSlot binary.BitAnd = slot.Equality
-rightSlot binary.Equal = slot.Relational
-rightSlot binary.NotEqual = slot.Relational
-rightSlot binary.StrictEqual = slot.Relational
-rightSlot binary.StrictNotEqual = slot.Relational
-rightSlot binary.Less = slot.Shift
-rightSlot binary.LessOrEqual = slot.Shift
-rightSlot binary.Greater = slot.Shift
-rightSlot binary.GreaterOrEqual = slot.Shift
-rightSlot binary.In = slot.Shift
-rightSlot binary.Instanceof = slot.Shift
-rightSlot binary.LeftShift = slot.Additive
-rightSlot binary.RightShift = slot.Additive
-rightSlot binary.UnsignedRightShift = slot.Additive
-rightSlot binary.Add = slot.Multiplicative
-rightSlot binary.Subtract = slot.Multiplicative
-rightSlot binary.Multiply = slot.Exponentiation
-rightSlot binary.Divide = slot.Exponentiation
-rightSlot binary.Remainder = slot.Exponentiation
-rightSlot binary.Exponent = slot.Exponentiation
 
 abbrev pub seqOf : List Attr → Lay
 seqOf cs = child (at slot.Assignment) (tok comma (child (at slot.Assignment) (commas false (at slot.Assignment) (rest (rest cs)) end)))

@@ -57,7 +57,8 @@ use Rattle.kinds.specs.declared.level.Slot.the-variants as slot
 use Rattle.grammar.specs.Codes.{openParen, closeParen, openBracket, closeBracket, openBrace, closeBrace, semicolon, comma, dot, colon, question, questionDot, arrow, equals, wordThis, wordFunction, wordIn, wordNew, wordAwait, wordYield, wordVar, wordReturn, wordIf, wordElse, wordWhile, wordFor, constantCode, unaryCode, updateCode, binaryCode}
 use Rattle.grammar.specs.Site.{Attr, isSort, isExpression}
 use Rattle.grammar.specs.Tree.{Head, head, headOf, Tree, Forest, node, nil, _▸_}
-use Rattle.grammar.specs.Layout.{leftSlot, rightSlot, attr, codeBegin}
+use Rattle.grammar.specs.Layout.{attr, codeBegin}
+use Rattle.kinds.specs.Levels.{leftSlot, rightSlot}
 use Rattle.grammar.specs.Site.{isOther}
 use Rattle.grammar.specs.Derives.{loOf}
 

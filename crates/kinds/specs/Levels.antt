@@ -10,6 +10,7 @@
 --                       optional chain; all others
 --   isTarget s          a Name, a Member, or a pair round a target
 --   fits p s            an expression of the standing s may stand bare in the slot p
+--   leftSlot o, rightSlot o    the slots of the operands of a binary operator
 --
 -- Assumes nothing.
 use Prim.Native.Nat.{ℕ}
@@ -360,3 +361,58 @@ fits slot.Chain s = isO s
 fits slot.Target s = isTarget s
 fits slot.Identifier s = eqb (order s) 24
 fits slot.PropertyName s = eqb (order s) 22 || eqb (order s) 24
+
+-- The slots of a binary operator.
+abbrev pub leftSlot : BinaryOperator → Slot
+leftSlot binary.Coalesce = slot.Coalesce
+leftSlot binary.Or = slot.LogicalOr
+leftSlot binary.And = slot.LogicalAnd
+leftSlot binary.BitOr = slot.BitwiseOr
+leftSlot binary.BitXor = slot.BitwiseXor
+leftSlot binary.BitAnd = slot.BitwiseAnd
+leftSlot binary.Equal = slot.Equality
+leftSlot binary.NotEqual = slot.Equality
+leftSlot binary.StrictEqual = slot.Equality
+leftSlot binary.StrictNotEqual = slot.Equality
+leftSlot binary.Less = slot.Relational
+leftSlot binary.LessOrEqual = slot.Relational
+leftSlot binary.Greater = slot.Relational
+leftSlot binary.GreaterOrEqual = slot.Relational
+leftSlot binary.In = slot.Relational
+leftSlot binary.Instanceof = slot.Relational
+leftSlot binary.LeftShift = slot.Shift
+leftSlot binary.RightShift = slot.Shift
+leftSlot binary.UnsignedRightShift = slot.Shift
+leftSlot binary.Add = slot.Additive
+leftSlot binary.Subtract = slot.Additive
+leftSlot binary.Multiply = slot.Multiplicative
+leftSlot binary.Divide = slot.Multiplicative
+leftSlot binary.Remainder = slot.Multiplicative
+leftSlot binary.Exponent = slot.Update
+
+abbrev pub rightSlot : BinaryOperator → Slot
+rightSlot binary.Coalesce = slot.BitwiseOr
+rightSlot binary.Or = slot.LogicalAnd
+rightSlot binary.And = slot.BitwiseOr
+rightSlot binary.BitOr = slot.BitwiseXor
+rightSlot binary.BitXor = slot.BitwiseAnd
+rightSlot binary.BitAnd = slot.Equality
+rightSlot binary.Equal = slot.Relational
+rightSlot binary.NotEqual = slot.Relational
+rightSlot binary.StrictEqual = slot.Relational
+rightSlot binary.StrictNotEqual = slot.Relational
+rightSlot binary.Less = slot.Shift
+rightSlot binary.LessOrEqual = slot.Shift
+rightSlot binary.Greater = slot.Shift
+rightSlot binary.GreaterOrEqual = slot.Shift
+rightSlot binary.In = slot.Shift
+rightSlot binary.Instanceof = slot.Shift
+rightSlot binary.LeftShift = slot.Additive
+rightSlot binary.RightShift = slot.Additive
+rightSlot binary.UnsignedRightShift = slot.Additive
+rightSlot binary.Add = slot.Multiplicative
+rightSlot binary.Subtract = slot.Multiplicative
+rightSlot binary.Multiply = slot.Exponentiation
+rightSlot binary.Divide = slot.Exponentiation
+rightSlot binary.Remainder = slot.Exponentiation
+rightSlot binary.Exponent = slot.Exponentiation

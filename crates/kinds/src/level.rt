@@ -2,7 +2,7 @@
 
 ghost use mathlib.Core.Path.{_≡_};
 ghost use mathlib.Core.Bool.{Bool};
-ghost use Rattle.kinds.specs.Levels.{formLevel, binaryLevel, classOf, targetOf, standing, fits};
+ghost use Rattle.kinds.specs.Levels.{formLevel, binaryLevel, classOf, targetOf, standing, fits, leftSlot, rightSlot};
 use crate::form::Arguments;
 use crate::form::Binding;
 use crate::form::Form;
@@ -153,9 +153,9 @@ pub fn fits(slot: Slot, form: Form, over_call: bool, over_target: bool) -> bool
         (Slot::Expression, _, _) => true,
         (Slot::Assignment, _, 1..=16) => true,
         (Slot::ShortCircuit, _, 3..=16) => true,
-        (Slot::LogicalOr, Form::Bin(op), 3) => matches!(op, BinaryOperator::Or),
+        (Slot::LogicalOr, Form::Bin(op), 3) if matches!(op, BinaryOperator::Or) => true,
         (Slot::LogicalOr, _, 4..=16) => true,
-        (Slot::Coalesce, Form::Bin(op), 3) => matches!(op, BinaryOperator::Coalesce),
+        (Slot::Coalesce, Form::Bin(op), 3) if matches!(op, BinaryOperator::Coalesce) => true,
         (Slot::Coalesce, _, 5..=16) => true,
         (Slot::LogicalAnd, _, 4..=16) => true,
         (Slot::BitwiseOr, _, 5..=16) => true,
@@ -181,5 +181,45 @@ pub fn fits(slot: Slot, form: Form, over_call: bool, over_target: bool) -> bool
         (Slot::Identifier, Form::Name(Binding::Plain), _) => true,
         (Slot::PropertyName, Form::Name(Binding::Plain) | Form::Num | Form::Str, _) => true,
         _ => false,
+    }
+}
+
+/// The slot of the left operand. Operators of one level lean to the left, so it takes the operator's own level; only `**` leans to
+/// the right, and `||` and `??` do not mix.
+pub fn left_slot(op: BinaryOperator) -> Slot
+    ensures { λ r. ⌜ r ≡ leftSlot op ⌝ }
+{
+    match (op, binary_level(op)) {
+        (BinaryOperator::Coalesce, _) => Slot::Coalesce,
+        (BinaryOperator::Exponent, _) => Slot::Update,
+        (_, 3) => Slot::LogicalOr,
+        (_, 4) => Slot::LogicalAnd,
+        (_, 5) => Slot::BitwiseOr,
+        (_, 6) => Slot::BitwiseXor,
+        (_, 7) => Slot::BitwiseAnd,
+        (_, 8) => Slot::Equality,
+        (_, 9) => Slot::Relational,
+        (_, 10) => Slot::Shift,
+        (_, 11) => Slot::Additive,
+        (_, _) => Slot::Multiplicative,
+    }
+}
+
+/// The slot of the right operand: one level up, but for `**`, and for `??`, which takes no `&&`.
+pub fn right_slot(op: BinaryOperator) -> Slot
+    ensures { λ r. ⌜ r ≡ rightSlot op ⌝ }
+{
+    match (op, binary_level(op)) {
+        (BinaryOperator::Coalesce, _) => Slot::BitwiseOr,
+        (_, 3) => Slot::LogicalAnd,
+        (_, 4) => Slot::BitwiseOr,
+        (_, 5) => Slot::BitwiseXor,
+        (_, 6) => Slot::BitwiseAnd,
+        (_, 7) => Slot::Equality,
+        (_, 8) => Slot::Relational,
+        (_, 9) => Slot::Shift,
+        (_, 10) => Slot::Additive,
+        (_, 11) => Slot::Multiplicative,
+        (_, _) => Slot::Exponentiation,
     }
 }
