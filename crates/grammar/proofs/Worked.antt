@@ -12,4 +12,4 @@ examples-hold = (refl, (refl, (refl, (refl, (refl, (refl, (refl, (refl, (refl, (
 
 pub cores-hold : Cores-hold
 unfolding read parse attr good wr clear settled flat effs opened operands
-cores-hold = (refl, (refl, (refl, (refl, (refl, (refl, (refl, (refl, (refl, (refl, (refl, (refl, (refl, (refl, (refl, (refl, (refl, (refl, (refl, (refl, (refl, (refl, (refl, (refl, (refl, tt)))))))))))))))))))))))))
+cores-hold = (refl, (refl, (refl, (refl, (refl, (refl, (refl, (refl, (refl, (refl, (refl, (refl, (refl, (refl, (refl, (refl, (refl, (refl, (refl, (refl, (refl, (refl, (refl, (refl, (refl, (refl, (refl, (refl, tt))))))))))))))))))))))))))))

@@ -271,6 +271,12 @@ cores =
     ∷ gives (openParen ∷ openParen ∷ code.Name ∷ closeParen ∷ closeParen ∷ dot ∷ code.Name ∷ openParen ∷ code.Number ∷ comma ∷ code.String ∷ comma ∷ (code.Word word.Null) ∷ closeParen ∷ semicolon ∷ []) (some (rec form.Script 0 0 ((rec form.ExprStmt 0 0 ((rec form.Call 0 0 ((rec (form.Member key.Fixed) 0 0 ((rec (form.Name binding.Plain) 21 24 nil) ▸ (rec (form.Name binding.Plain) 61 64 nil) ▸ nil)) ▸ (rec form.Num 81 84 nil) ▸ (rec form.Str 101 104 nil) ▸ (rec (form.Word constant.Null) 0 0 nil) ▸ nil)) ▸ nil)) ▸ nil)))
     -- var a = ( 1 , b ) , c ;
     ∷ gives ((code.Word word.Var) ∷ code.Name ∷ equals ∷ openParen ∷ code.Number ∷ comma ∷ code.Name ∷ closeParen ∷ comma ∷ code.Name ∷ semicolon ∷ []) (some (rec form.Script 0 0 ((rec form.Var 0 0 ((rec (form.Name binding.Valued) 11 14 nil) ▸ (rec form.Seq 0 0 ((rec (form.Name binding.Plain) 61 64 nil) ▸ nil)) ▸ (rec (form.Name binding.Plain) 91 94 nil) ▸ nil)) ▸ nil)))
+    -- ( a || b ) ?? ( c || d ) ;
+    ∷ gives (openParen ∷ code.Name ∷ (code.Operator operator.Or) ∷ code.Name ∷ closeParen ∷ (code.Operator operator.Coalesce) ∷ openParen ∷ code.Name ∷ (code.Operator operator.Or) ∷ code.Name ∷ closeParen ∷ semicolon ∷ []) (some (rec form.Script 0 0 ((rec form.ExprStmt 0 0 ((rec (form.Bin binary.Coalesce) 0 0 ((rec (form.Bin binary.Or) 0 0 ((rec (form.Name binding.Plain) 11 14 nil) ▸ (rec (form.Name binding.Plain) 31 34 nil) ▸ nil)) ▸ (rec (form.Bin binary.Or) 0 0 ((rec (form.Name binding.Plain) 71 74 nil) ▸ (rec (form.Name binding.Plain) 91 94 nil) ▸ nil)) ▸ nil)) ▸ nil)) ▸ nil)))
+    -- ( a ?? b ) && ( c ?? d ) ;
+    ∷ gives (openParen ∷ code.Name ∷ (code.Operator operator.Coalesce) ∷ code.Name ∷ closeParen ∷ (code.Operator operator.And) ∷ openParen ∷ code.Name ∷ (code.Operator operator.Coalesce) ∷ code.Name ∷ closeParen ∷ semicolon ∷ []) (some (rec form.Script 0 0 ((rec form.ExprStmt 0 0 ((rec (form.Bin binary.And) 0 0 ((rec (form.Bin binary.Coalesce) 0 0 ((rec (form.Name binding.Plain) 11 14 nil) ▸ (rec (form.Name binding.Plain) 31 34 nil) ▸ nil)) ▸ (rec (form.Bin binary.Coalesce) 0 0 ((rec (form.Name binding.Plain) 71 74 nil) ▸ (rec (form.Name binding.Plain) 91 94 nil) ▸ nil)) ▸ nil)) ▸ nil)) ▸ nil)))
+    -- ( a && b ) || ( c && d ) ;
+    ∷ gives (openParen ∷ code.Name ∷ (code.Operator operator.And) ∷ code.Name ∷ closeParen ∷ (code.Operator operator.Or) ∷ openParen ∷ code.Name ∷ (code.Operator operator.And) ∷ code.Name ∷ closeParen ∷ semicolon ∷ []) (some (rec form.Script 0 0 ((rec form.ExprStmt 0 0 ((rec (form.Bin binary.Or) 0 0 ((rec (form.Bin binary.And) 0 0 ((rec (form.Name binding.Plain) 11 14 nil) ▸ (rec (form.Name binding.Plain) 31 34 nil) ▸ nil)) ▸ (rec (form.Bin binary.And) 0 0 ((rec (form.Name binding.Plain) 71 74 nil) ▸ (rec (form.Name binding.Plain) 91 94 nil) ▸ nil)) ▸ nil)) ▸ nil)) ▸ nil)))
     ∷ []
 
 abbrev pub Cores-hold : Type 0
