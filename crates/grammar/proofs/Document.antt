@@ -44,8 +44,8 @@ use Rattle.kinds.specs.declared.level.Slot.the-variants as slot
 use Rattle.grammar.specs.Codes.{openParen, closeParen, openBracket, closeBracket, openBrace, closeBrace, semicolon, comma, dot, colon, question, questionDot, arrow, equals, wordThis, wordFunction, wordIn, wordNew, wordAwait, wordYield, wordVar, wordReturn, wordIf, wordElse, wordWhile, wordFor, constantCode, unaryCode, updateCode, binaryCode}
 use Rattle.grammar.specs.Site.{ok, isExpression, Sort, expression, statement, block, declaration, property, script, nothing, sortRank, Attr, isSort, valued, Site, at, start, body, blockOnly, stmt, closed, init, varInit, forLeft, varIn, prop, plainName, valuedName, keyName, root}
 use Rattle.grammar.specs.Tree.{Head, head, headOf, Tree, Forest, node, nil, _▸_}
-use Rattle.grammar.specs.Layout.{Lay, end, tok, commas, listed, run, argumentsOf, fnOf, varOf, initSite, leftSite, firstStanding, layout, attr, attrs, attrOf}
-use Rattle.grammar.specs.Derives.{token, loOf, Derives, Follows, derive, d-end, d-tok, d-kid}
+use Rattle.grammar.specs.Layout.{Lay, end, tok, child, inside, commas, listed, run, rest, butLast, argumentsOf, parameters, names, fnOf, varOf, initSite, leftSite, kid, firstStanding, layout, attr, attrs, attrOf}
+use Rattle.grammar.specs.Derives.{token, loOf, Derives, Follows, derive, d-end, d-stop, d-tok, d-kid}
 use Rattle.kinds.specs.Levels.{Standing, member, callMember, primary, isC, isTarget, fits}
 use Rattle.grammar.specs.Productions.{Expression, MemberExpression, CallOrMemberExpression, IdentifierName, SimpleTarget, Units, Productions, Lists}
 use Rattle.grammar.proofs.Tests.{and-l, and-r, and-i, imp, mp, is-false}
@@ -154,6 +154,29 @@ from-var-in {t} {ks} {r} d =
     let e : isSort declaration (attr t) ≡ true = is-true _ (and-l (isSort declaration (attr t)) _ (derives-good d .0)) in
     subst (λ (b : Bool). Derives (cond b varIn forLeft) t ks r) (sym e) d
 
+-- An expression is no Name with a value.
+not-valued : (s : Sort) → T (eqb 0 (sortRank s)) → eqb 5 (sortRank s) ≡ false
+not-valued expression h = refl
+not-valued statement h = refl
+not-valued block h = refl
+not-valued declaration h = refl
+not-valued property h = refl
+not-valued valued h = absurd h
+not-valued script h = refl
+not-valued nothing h = refl
+
+from-name : {u : Tree} {us : Forest} {ks js r : List Token} {h0 h : ℕ} → Derives plainName u ks js → Follows false (names (attrs us) false) us js r (headOf u .hi) h → Follows false (varOf (attrs (u ▸ us))) (u ▸ us) ks r h0 h
+unfolding attrs
+from-name {u} {us} {ks} {js} {r} {h0} {h} a d =
+    let e : isSort valued (attr u) ≡ false = not-valued (attr u .sort) (and-l (isExpression (attr u)) _ (derives-good a .0)) in
+    subst (λ (b : Bool). Follows false (cond b (kid false valuedName (tok equals (names (attrs us) true))) (kid false plainName (names (attrs us) false))) (u ▸ us) ks r h0 h) (sym e) (d-kid a d)
+
+from-value : {u v : Tree} {us : Forest} {ks js ls r : List Token} {l i h0 h : ℕ} → Derives valuedName u ks (token equals l i ∷ js) → Derives (at slot.Assignment) v js ls → Follows false (names (attrs us) false) us ls r (headOf v .hi) h → Follows false (varOf (attrs (u ▸ (v ▸ us)))) (u ▸ (v ▸ us)) ks r h0 h
+unfolding attrs
+from-value {u} {v} {us} {ks} {js} {ls} {r} {l} {i} {h0} {h} a b d =
+    let e : isSort valued (attr u) ≡ true = is-true _ (derives-good a .0) in
+    subst (λ (x : Bool). Follows false (cond x (kid false valuedName (tok equals (names (attr v ∷ attrs us) true))) (kid false plainName (names (attr v ∷ attrs us) false))) (u ▸ (v ▸ us)) ks r h0 h) (sym e) (d-kid a (d-tok (d-kid b d)))
+
 child-fits : {p : Slot} {t : Tree} {ks r : List Token} → Derives (at p) t ks r → T (fits p (attr t .standing))
 child-fits {p} {t} d = let (f, g, w) = derives-good d in and-r (isExpression (attr t)) _ f
 
@@ -210,6 +233,7 @@ productions = record {
   computed-property = λ a1 a4. derive tt (d-tok (d-kid a1 (d-tok (d-tok (d-kid a4 d-end)))));
   parenthesized = λ a1. p-parenthesized a1;
   function = λ d. derive tt (d-tok d);
+  named-function = λ a1 d. derive tt (d-tok (d-kid a1 d));
   new-with-list = λ a1 d. derive tt (d-tok (d-kid a1 d));
   new-without-list = λ a1. derive tt (d-tok (d-kid a1 d-end));
   call = λ a0 d. derive tt (d-kid a0 d);
@@ -314,4 +338,16 @@ lists = record {
   init-var = λ d. from-var-init d;
   left-target = λ d. from-left d;
   left-var = λ d. from-var-in d;
+  function-no-parameter = λ a. d-tok (d-tok (d-kid a d-end));
+  function-first-parameter = λ a d. d-tok (d-kid a d);
+  function-next-parameter = λ a d. d-tok (d-kid a d);
+  function-last-parameter = λ a. d-tok (d-kid a d-end);
+  arrow-no-parameter = λ a. d-tok (d-tok (d-tok (d-kid a d-end)));
+  arrow-first-parameter = λ a d. d-tok (d-kid a d);
+  arrow-next-parameter = λ a d. d-tok (d-kid a d);
+  arrow-last-parameter = λ a. d-tok (d-tok (d-kid a d-end));
+  declare-name = λ a d. from-name a d;
+  declare-value = λ a b d. from-value a b d;
+  next-declaration = λ d. d-tok d;
+  last-declaration = d-stop (_, refl);
 }

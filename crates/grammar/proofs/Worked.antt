@@ -3,8 +3,13 @@ use mathlib.Core.Path.{refl}
 use Rattle.grammar.specs.Layout.{attr, good, wr}
 use Rattle.grammar.specs.Parser.{parse}
 use Rattle.grammar.specs.Read.{read}
-use Rattle.grammar.specs.Examples.{Examples-hold}
+use Rattle.grammar.specs.Core.{clear, settled, flat, effs, opened, operands}
+use Rattle.grammar.specs.Examples.{Examples-hold, Cores-hold}
 
 pub examples-hold : Examples-hold
 unfolding read parse attr good wr
 examples-hold = (refl, (refl, (refl, (refl, (refl, (refl, (refl, (refl, (refl, (refl, (refl, (refl, (refl, (refl, (refl, (refl, (refl, (refl, (refl, (refl, (refl, (refl, (refl, (refl, (refl, (refl, (refl, (refl, (refl, (refl, (refl, (refl, (refl, (refl, (refl, (refl, (refl, (refl, (refl, (refl, (refl, (refl, (refl, (refl, (refl, (refl, (refl, (refl, (refl, (refl, (refl, (refl, (refl, (refl, (refl, (refl, (refl, (refl, (refl, (refl, (refl, (refl, (refl, (refl, (refl, (refl, (refl, tt)))))))))))))))))))))))))))))))))))))))))))))))))))))))))))))))))))
+
+pub cores-hold : Cores-hold
+unfolding read parse attr good wr clear settled flat effs opened operands
+cores-hold = (refl, (refl, (refl, (refl, (refl, (refl, (refl, (refl, (refl, (refl, (refl, (refl, (refl, (refl, (refl, (refl, (refl, (refl, (refl, (refl, (refl, (refl, (refl, (refl, (refl, (refl, (refl, (refl, tt))))))))))))))))))))))))))))

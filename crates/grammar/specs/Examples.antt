@@ -2,6 +2,7 @@
 -- that they read as, or none.
 --
 --   Examples-hold     the reader gives each of them as written here
+--   Cores-hold        and so for the core forms of what is read
 --
 -- Assumes nothing.
 use Prim.Native.Nat.{ℕ, _+_, _*_}
@@ -48,6 +49,7 @@ use Rattle.grammar.specs.Codes.{openParen, closeParen, openBracket, closeBrack
 use Rattle.grammar.specs.Tree.{head, Tree, Forest, node, nil, _▸_}
 use Rattle.grammar.specs.Derives.{token}
 use Rattle.grammar.specs.Read.{read}
+use Rattle.grammar.specs.Core.{core}
 
 pub record Example : Type 0 where
   pub tokens : List Code
@@ -207,3 +209,75 @@ examples =
 
 abbrev pub Examples-hold : Type 0
 Examples-hold = Hold examples
+
+abbrev pub coreOf : Option Tree → Option Tree
+coreOf none = none
+coreOf (some t) = some (core t)
+
+abbrev pub Hold-core : List Example → Type 0
+Hold-core [] = Unit {0}
+Hold-core (e ∷ es) = (coreOf (read (placed 0 (e .tokens))) ≡ e .tree) × Hold-core es
+
+-- A text, its tokens, and the core form of its reading: places are 0 but for Name, Num and Str.
+abbrev pub cores : List Example
+cores =
+    -- a , b ;
+    gives (code.Name ∷ comma ∷ code.Name ∷ semicolon ∷ []) (some (rec form.Script 0 0 ((rec form.ExprStmt 0 0 ((rec form.Seq 0 0 ((rec (form.Name binding.Plain) 1 4 nil) ▸ (rec (form.Name binding.Plain) 21 24 nil) ▸ nil)) ▸ nil)) ▸ nil)))
+    -- 0 , a ;
+    ∷ gives (code.Number ∷ comma ∷ code.Name ∷ semicolon ∷ []) (some (rec form.Script 0 0 ((rec form.ExprStmt 0 0 ((rec form.Seq 0 0 ((rec (form.Name binding.Plain) 21 24 nil) ▸ nil)) ▸ nil)) ▸ nil)))
+    -- "s" , a ;
+    ∷ gives (code.String ∷ comma ∷ code.Name ∷ semicolon ∷ []) (some (rec form.Script 0 0 ((rec form.ExprStmt 0 0 ((rec form.Seq 0 0 ((rec (form.Name binding.Plain) 21 24 nil) ▸ nil)) ▸ nil)) ▸ nil)))
+    -- true , a ;
+    ∷ gives ((code.Word word.True) ∷ comma ∷ code.Name ∷ semicolon ∷ []) (some (rec form.Script 0 0 ((rec form.ExprStmt 0 0 ((rec form.Seq 0 0 ((rec (form.Name binding.Plain) 21 24 nil) ▸ nil)) ▸ nil)) ▸ nil)))
+    -- ( function ( ) { } ) , a ;
+    ∷ gives (openParen ∷ (code.Word word.Function) ∷ openParen ∷ closeParen ∷ openBrace ∷ closeBrace ∷ closeParen ∷ comma ∷ code.Name ∷ semicolon ∷ []) (some (rec form.Script 0 0 ((rec form.ExprStmt 0 0 ((rec form.Seq 0 0 ((rec (form.Name binding.Plain) 81 84 nil) ▸ nil)) ▸ nil)) ▸ nil)))
+    -- ( ( ) => b ) , a ;
+    ∷ gives (openParen ∷ openParen ∷ closeParen ∷ arrow ∷ code.Name ∷ closeParen ∷ comma ∷ code.Name ∷ semicolon ∷ []) (some (rec form.Script 0 0 ((rec form.ExprStmt 0 0 ((rec form.Seq 0 0 ((rec (form.Name binding.Plain) 71 74 nil) ▸ nil)) ▸ nil)) ▸ nil)))
+    -- this , a ;
+    ∷ gives ((code.Word word.This) ∷ comma ∷ code.Name ∷ semicolon ∷ []) (some (rec form.Script 0 0 ((rec form.ExprStmt 0 0 ((rec form.Seq 0 0 ((rec form.This 0 0 nil) ▸ (rec (form.Name binding.Plain) 21 24 nil) ▸ nil)) ▸ nil)) ▸ nil)))
+    -- [ 1 ] , a ;
+    ∷ gives (openBracket ∷ code.Number ∷ closeBracket ∷ comma ∷ code.Name ∷ semicolon ∷ []) (some (rec form.Script 0 0 ((rec form.ExprStmt 0 0 ((rec form.Seq 0 0 ((rec form.Array 0 0 ((rec form.Num 11 14 nil) ▸ nil)) ▸ (rec (form.Name binding.Plain) 41 44 nil) ▸ nil)) ▸ nil)) ▸ nil)))
+    -- void a , b ;
+    ∷ gives ((code.Word word.Void) ∷ code.Name ∷ comma ∷ code.Name ∷ semicolon ∷ []) (some (rec form.Script 0 0 ((rec form.ExprStmt 0 0 ((rec form.Seq 0 0 ((rec (form.Name binding.Plain) 11 14 nil) ▸ (rec (form.Name binding.Plain) 31 34 nil) ▸ nil)) ▸ nil)) ▸ nil)))
+    -- void ( 0 , a ) , void b ;
+    ∷ gives ((code.Word word.Void) ∷ openParen ∷ code.Number ∷ comma ∷ code.Name ∷ closeParen ∷ comma ∷ (code.Word word.Void) ∷ code.Name ∷ semicolon ∷ []) (some (rec form.Script 0 0 ((rec form.ExprStmt 0 0 ((rec form.Seq 0 0 ((rec (form.Name binding.Plain) 41 44 nil) ▸ (rec (form.Unary unary.Void) 0 0 ((rec (form.Name binding.Plain) 81 84 nil) ▸ nil)) ▸ nil)) ▸ nil)) ▸ nil)))
+    -- void 0 , a , ( b , 1 , c ) ;
+    ∷ gives ((code.Word word.Void) ∷ code.Number ∷ comma ∷ code.Name ∷ comma ∷ openParen ∷ code.Name ∷ comma ∷ code.Number ∷ comma ∷ code.Name ∷ closeParen ∷ semicolon ∷ []) (some (rec form.Script 0 0 ((rec form.ExprStmt 0 0 ((rec form.Seq 0 0 ((rec (form.Name binding.Plain) 31 34 nil) ▸ (rec (form.Name binding.Plain) 61 64 nil) ▸ (rec (form.Name binding.Plain) 101 104 nil) ▸ nil)) ▸ nil)) ▸ nil)))
+    -- a , ( 2 , void ( b , "s" ) ) ;
+    ∷ gives (code.Name ∷ comma ∷ openParen ∷ code.Number ∷ comma ∷ (code.Word word.Void) ∷ openParen ∷ code.Name ∷ comma ∷ code.String ∷ closeParen ∷ closeParen ∷ semicolon ∷ []) (some (rec form.Script 0 0 ((rec form.ExprStmt 0 0 ((rec form.Seq 0 0 ((rec (form.Name binding.Plain) 1 4 nil) ▸ (rec (form.Unary unary.Void) 0 0 ((rec form.Seq 0 0 ((rec (form.Name binding.Plain) 71 74 nil) ▸ (rec form.Str 91 94 nil) ▸ nil)) ▸ nil)) ▸ nil)) ▸ nil)) ▸ nil)))
+    -- 0 , ( 1 , 2 ) ;
+    ∷ gives (code.Number ∷ comma ∷ openParen ∷ code.Number ∷ comma ∷ code.Number ∷ closeParen ∷ semicolon ∷ []) (some (rec form.Script 0 0 ((rec form.ExprStmt 0 0 ((rec form.Seq 0 0 ((rec form.Num 51 54 nil) ▸ nil)) ▸ nil)) ▸ nil)))
+    -- - a , b ;
+    ∷ gives ((code.Operator operator.Minus) ∷ code.Name ∷ comma ∷ code.Name ∷ semicolon ∷ []) (some (rec form.Script 0 0 ((rec form.ExprStmt 0 0 ((rec form.Seq 0 0 ((rec (form.Unary unary.Minus) 0 0 ((rec (form.Name binding.Plain) 11 14 nil) ▸ nil)) ▸ (rec (form.Name binding.Plain) 31 34 nil) ▸ nil)) ▸ nil)) ▸ nil)))
+    -- a && ( b && c ) ;
+    ∷ gives (code.Name ∷ (code.Operator operator.And) ∷ openParen ∷ code.Name ∷ (code.Operator operator.And) ∷ code.Name ∷ closeParen ∷ semicolon ∷ []) (some (rec form.Script 0 0 ((rec form.ExprStmt 0 0 ((rec (form.Bin binary.And) 0 0 ((rec (form.Name binding.Plain) 1 4 nil) ▸ (rec (form.Name binding.Plain) 31 34 nil) ▸ (rec (form.Name binding.Plain) 51 54 nil) ▸ nil)) ▸ nil)) ▸ nil)))
+    -- ( a || b ) || ( c || d ) ;
+    ∷ gives (openParen ∷ code.Name ∷ (code.Operator operator.Or) ∷ code.Name ∷ closeParen ∷ (code.Operator operator.Or) ∷ openParen ∷ code.Name ∷ (code.Operator operator.Or) ∷ code.Name ∷ closeParen ∷ semicolon ∷ []) (some (rec form.Script 0 0 ((rec form.ExprStmt 0 0 ((rec (form.Bin binary.Or) 0 0 ((rec (form.Name binding.Plain) 11 14 nil) ▸ (rec (form.Name binding.Plain) 31 34 nil) ▸ (rec (form.Name binding.Plain) 71 74 nil) ▸ (rec (form.Name binding.Plain) 91 94 nil) ▸ nil)) ▸ nil)) ▸ nil)))
+    -- a ?? ( b ?? c ) ;
+    ∷ gives (code.Name ∷ (code.Operator operator.Coalesce) ∷ openParen ∷ code.Name ∷ (code.Operator operator.Coalesce) ∷ code.Name ∷ closeParen ∷ semicolon ∷ []) (some (rec form.Script 0 0 ((rec form.ExprStmt 0 0 ((rec (form.Bin binary.Coalesce) 0 0 ((rec (form.Name binding.Plain) 1 4 nil) ▸ (rec (form.Name binding.Plain) 31 34 nil) ▸ (rec (form.Name binding.Plain) 51 54 nil) ▸ nil)) ▸ nil)) ▸ nil)))
+    -- a && ( b || c ) ;
+    ∷ gives (code.Name ∷ (code.Operator operator.And) ∷ openParen ∷ code.Name ∷ (code.Operator operator.Or) ∷ code.Name ∷ closeParen ∷ semicolon ∷ []) (some (rec form.Script 0 0 ((rec form.ExprStmt 0 0 ((rec (form.Bin binary.And) 0 0 ((rec (form.Name binding.Plain) 1 4 nil) ▸ (rec (form.Bin binary.Or) 0 0 ((rec (form.Name binding.Plain) 31 34 nil) ▸ (rec (form.Name binding.Plain) 51 54 nil) ▸ nil)) ▸ nil)) ▸ nil)) ▸ nil)))
+    -- a + ( b + c ) ;
+    ∷ gives (code.Name ∷ (code.Operator operator.Plus) ∷ openParen ∷ code.Name ∷ (code.Operator operator.Plus) ∷ code.Name ∷ closeParen ∷ semicolon ∷ []) (some (rec form.Script 0 0 ((rec form.ExprStmt 0 0 ((rec (form.Bin binary.Add) 0 0 ((rec (form.Name binding.Plain) 1 4 nil) ▸ (rec (form.Bin binary.Add) 0 0 ((rec (form.Name binding.Plain) 31 34 nil) ▸ (rec (form.Name binding.Plain) 51 54 nil) ▸ nil)) ▸ nil)) ▸ nil)) ▸ nil)))
+    -- if ( a ) { b ; } else { c ; }
+    ∷ gives ((code.Word word.If) ∷ openParen ∷ code.Name ∷ closeParen ∷ openBrace ∷ code.Name ∷ semicolon ∷ closeBrace ∷ (code.Word word.Else) ∷ openBrace ∷ code.Name ∷ semicolon ∷ closeBrace ∷ []) (some (rec form.Script 0 0 ((rec form.If 0 0 ((rec (form.Name binding.Plain) 21 24 nil) ▸ (rec form.ExprStmt 0 0 ((rec (form.Name binding.Plain) 51 54 nil) ▸ nil)) ▸ (rec form.Block 0 0 ((rec form.ExprStmt 0 0 ((rec (form.Name binding.Plain) 101 104 nil) ▸ nil)) ▸ nil)) ▸ nil)) ▸ nil)))
+    -- if ( a ) { { b ; } }
+    ∷ gives ((code.Word word.If) ∷ openParen ∷ code.Name ∷ closeParen ∷ openBrace ∷ openBrace ∷ code.Name ∷ semicolon ∷ closeBrace ∷ closeBrace ∷ []) (some (rec form.Script 0 0 ((rec form.If 0 0 ((rec (form.Name binding.Plain) 21 24 nil) ▸ (rec form.ExprStmt 0 0 ((rec (form.Name binding.Plain) 61 64 nil) ▸ nil)) ▸ nil)) ▸ nil)))
+    -- if ( a ) { b ; c ; }
+    ∷ gives ((code.Word word.If) ∷ openParen ∷ code.Name ∷ closeParen ∷ openBrace ∷ code.Name ∷ semicolon ∷ code.Name ∷ semicolon ∷ closeBrace ∷ []) (some (rec form.Script 0 0 ((rec form.If 0 0 ((rec (form.Name binding.Plain) 21 24 nil) ▸ (rec form.Block 0 0 ((rec form.ExprStmt 0 0 ((rec (form.Name binding.Plain) 51 54 nil) ▸ nil)) ▸ (rec form.ExprStmt 0 0 ((rec (form.Name binding.Plain) 71 74 nil) ▸ nil)) ▸ nil)) ▸ nil)) ▸ nil)))
+    -- while ( a ) { b ; }
+    ∷ gives ((code.Word word.While) ∷ openParen ∷ code.Name ∷ closeParen ∷ openBrace ∷ code.Name ∷ semicolon ∷ closeBrace ∷ []) (some (rec form.Script 0 0 ((rec form.While 0 0 ((rec (form.Name binding.Plain) 21 24 nil) ▸ (rec form.Block 0 0 ((rec form.ExprStmt 0 0 ((rec (form.Name binding.Plain) 51 54 nil) ▸ nil)) ▸ nil)) ▸ nil)) ▸ nil)))
+    -- ( ( a ) ) . b ( 1 , "s" , null ) ;
+    ∷ gives (openParen ∷ openParen ∷ code.Name ∷ closeParen ∷ closeParen ∷ dot ∷ code.Name ∷ openParen ∷ code.Number ∷ comma ∷ code.String ∷ comma ∷ (code.Word word.Null) ∷ closeParen ∷ semicolon ∷ []) (some (rec form.Script 0 0 ((rec form.ExprStmt 0 0 ((rec form.Call 0 0 ((rec (form.Member key.Fixed) 0 0 ((rec (form.Name binding.Plain) 21 24 nil) ▸ (rec (form.Name binding.Plain) 61 64 nil) ▸ nil)) ▸ (rec form.Num 81 84 nil) ▸ (rec form.Str 101 104 nil) ▸ (rec (form.Word constant.Null) 0 0 nil) ▸ nil)) ▸ nil)) ▸ nil)))
+    -- var a = ( 1 , b ) , c ;
+    ∷ gives ((code.Word word.Var) ∷ code.Name ∷ equals ∷ openParen ∷ code.Number ∷ comma ∷ code.Name ∷ closeParen ∷ comma ∷ code.Name ∷ semicolon ∷ []) (some (rec form.Script 0 0 ((rec form.Var 0 0 ((rec (form.Name binding.Valued) 11 14 nil) ▸ (rec form.Seq 0 0 ((rec (form.Name binding.Plain) 61 64 nil) ▸ nil)) ▸ (rec (form.Name binding.Plain) 91 94 nil) ▸ nil)) ▸ nil)))
+    -- ( a || b ) ?? ( c || d ) ;
+    ∷ gives (openParen ∷ code.Name ∷ (code.Operator operator.Or) ∷ code.Name ∷ closeParen ∷ (code.Operator operator.Coalesce) ∷ openParen ∷ code.Name ∷ (code.Operator operator.Or) ∷ code.Name ∷ closeParen ∷ semicolon ∷ []) (some (rec form.Script 0 0 ((rec form.ExprStmt 0 0 ((rec (form.Bin binary.Coalesce) 0 0 ((rec (form.Bin binary.Or) 0 0 ((rec (form.Name binding.Plain) 11 14 nil) ▸ (rec (form.Name binding.Plain) 31 34 nil) ▸ nil)) ▸ (rec (form.Bin binary.Or) 0 0 ((rec (form.Name binding.Plain) 71 74 nil) ▸ (rec (form.Name binding.Plain) 91 94 nil) ▸ nil)) ▸ nil)) ▸ nil)) ▸ nil)))
+    -- ( a ?? b ) && ( c ?? d ) ;
+    ∷ gives (openParen ∷ code.Name ∷ (code.Operator operator.Coalesce) ∷ code.Name ∷ closeParen ∷ (code.Operator operator.And) ∷ openParen ∷ code.Name ∷ (code.Operator operator.Coalesce) ∷ code.Name ∷ closeParen ∷ semicolon ∷ []) (some (rec form.Script 0 0 ((rec form.ExprStmt 0 0 ((rec (form.Bin binary.And) 0 0 ((rec (form.Bin binary.Coalesce) 0 0 ((rec (form.Name binding.Plain) 11 14 nil) ▸ (rec (form.Name binding.Plain) 31 34 nil) ▸ nil)) ▸ (rec (form.Bin binary.Coalesce) 0 0 ((rec (form.Name binding.Plain) 71 74 nil) ▸ (rec (form.Name binding.Plain) 91 94 nil) ▸ nil)) ▸ nil)) ▸ nil)) ▸ nil)))
+    -- ( a && b ) || ( c && d ) ;
+    ∷ gives (openParen ∷ code.Name ∷ (code.Operator operator.And) ∷ code.Name ∷ closeParen ∷ (code.Operator operator.Or) ∷ openParen ∷ code.Name ∷ (code.Operator operator.And) ∷ code.Name ∷ closeParen ∷ semicolon ∷ []) (some (rec form.Script 0 0 ((rec form.ExprStmt 0 0 ((rec (form.Bin binary.Or) 0 0 ((rec (form.Bin binary.And) 0 0 ((rec (form.Name binding.Plain) 11 14 nil) ▸ (rec (form.Name binding.Plain) 31 34 nil) ▸ nil)) ▸ (rec (form.Bin binary.And) 0 0 ((rec (form.Name binding.Plain) 71 74 nil) ▸ (rec (form.Name binding.Plain) 91 94 nil) ▸ nil)) ▸ nil)) ▸ nil)) ▸ nil)))
+    ∷ []
+
+abbrev pub Cores-hold : Type 0
+Cores-hold = Hold-core cores

@@ -47,7 +47,7 @@ use Rattle.kinds.specs.declared.level.Slot.the-variants as slot
 use Rattle.grammar.specs.Codes.{openParen, closeParen, openBracket, closeBracket, openBrace, closeBrace, semicolon, comma, dot, colon, question, questionDot, arrow, equals, wordThis, wordFunction, wordIn, wordNew, wordAwait, wordYield, wordVar, wordReturn, wordIf, wordElse, wordWhile, wordFor, constantCode, unaryCode, updateCode, binaryCode}
 use Rattle.grammar.specs.Site.{Sort, expression, statement, block, declaration, property, script, nothing, sortRank, Attr, isSort, valued, Site, at, start, body, blockOnly, stmt, closed, init, varInit, forLeft, varIn, prop, plainName, valuedName, keyName, root}
 use Rattle.grammar.specs.Tree.{Head, head, headOf, Tree, Forest, node, nil, _▸_}
-use Rattle.grammar.specs.Layout.{Lay, end, tok, commas, listed, run, argumentsOf, fnOf, varOf, initSite, leftSite, layout, attr, attrs}
+use Rattle.grammar.specs.Layout.{Lay, end, tok, child, inside, commas, listed, run, rest, butLast, argumentsOf, parameters, names, fnOf, varOf, initSite, leftSite, layout, attr, attrs}
 use Rattle.grammar.specs.Derives.{token, loOf, Derives, Follows}
 
 abbrev pub Expression : Tree → List Token → List Token → Type 0
@@ -197,6 +197,9 @@ StatementsToBrace us ks r h0 h = List-of (run (attrs us) (tok closeBrace end)) u
 abbrev pub StatementsToEnd : Forest → List Token → List Token → ℕ → ℕ → Type 0
 StatementsToEnd us ks r h0 h = List-of (run (attrs us) end) us ks r h0 h
 
+abbrev pub MoreDeclarations : Forest → List Token → List Token → ℕ → ℕ → Type 0
+MoreDeclarations us ks r h0 h = List-of (names (attrs us) false) us ks r h0 h
+
 abbrev pub Declarations : Forest → List Token → List Token → ℕ → ℕ → Type 0
 Declarations us ks r h0 h = List-of (varOf (attrs us)) us ks r h0 h
 
@@ -288,6 +291,8 @@ pub record Productions : Type 0 where
   pub parenthesized : {u1 : Tree} {k1 r : List Token} {h0 h2 l0 l2 : ℕ} → Expression u1 k1 (token closeParen l2 h2 ∷ r) → MemberExpression (node (head form.Paren (loOf (token openParen l0 h0 ∷ k1)) h2) (u1 ▸ nil)) (token openParen l0 h0 ∷ k1) r
   -- FunctionExpression : function ( FormalParameters ) { FunctionBody }
   pub function : {us : Forest} {k1 r : List Token} {h h0 l0 : ℕ} → Function us k1 r h0 h → MemberExpression (node (head (form.Fn own.Nameless) (loOf (token wordFunction l0 h0 ∷ k1)) h) us) (token wordFunction l0 h0 ∷ k1) r
+  -- FunctionExpression : function BindingIdentifier ( FormalParameters ) { FunctionBody }
+  pub named-function : {u1 : Tree} {us : Forest} {k1 k2 r : List Token} {h h0 l0 : ℕ} → IdentifierName u1 k1 k2 → Function us k2 r (headOf u1 .hi) h → MemberExpression (node (head (form.Fn own.Named) (loOf (token wordFunction l0 h0 ∷ k1)) h) (u1 ▸ us)) (token wordFunction l0 h0 ∷ k1) r
   -- MemberExpression : new MemberExpression Arguments
   pub new-with-list : {u1 : Tree} {us : Forest} {k1 k2 r : List Token} {h h0 l0 : ℕ} → MemberExpression u1 k1 k2 → ArgumentList us k2 r (headOf u1 .hi) h → MemberExpression (node (head (form.New arguments.Listed) (loOf (token wordNew l0 h0 ∷ k1)) h) (u1 ▸ us)) (token wordNew l0 h0 ∷ k1) r
   -- NewExpression : new NewExpression
@@ -488,3 +493,27 @@ pub record Lists : Type 0 where
   pub left-target : {t : Tree} {ks r : List Token} → ForInTarget t ks r → ForInLeft t ks r
   -- ForInStatement : for ( var ForBinding in ..
   pub left-var : {t : Tree} {ks r : List Token} → ForInVar t ks r → ForInLeft t ks r
+  -- FormalParameters : none, then ) { FunctionBody }
+  pub function-no-parameter : {v : Tree} {ks r : List Token} {l i l2 i2 h0 : ℕ} → FunctionBody v ks r → List-of (parameters (butLast (attrs (v ▸ nil))) (inside blockOnly end)) (v ▸ nil) (token openParen l i ∷ (token closeParen l2 i2 ∷ ks)) r h0 (headOf v .hi)
+  -- FormalParameterList : BindingIdentifier
+  pub function-first-parameter : {u v : Tree} {us : Forest} {ks js r : List Token} {l i h0 h : ℕ} → IdentifierName u ks js → List-of (commas true plainName (butLast (attrs (v ▸ us))) (tok closeParen (inside blockOnly end))) (v ▸ us) js r (headOf u .hi) h → List-of (parameters (butLast (attrs (u ▸ (v ▸ us)))) (inside blockOnly end)) (u ▸ (v ▸ us)) (token openParen l i ∷ ks) r h0 h
+  -- FormalParameterList : FormalParameterList , BindingIdentifier
+  pub function-next-parameter : {u v : Tree} {us : Forest} {ks js r : List Token} {l i h0 h : ℕ} → IdentifierName u ks js → List-of (commas true plainName (butLast (attrs (v ▸ us))) (tok closeParen (inside blockOnly end))) (v ▸ us) js r (headOf u .hi) h → List-of (commas true plainName (butLast (attrs (u ▸ (v ▸ us)))) (tok closeParen (inside blockOnly end))) (u ▸ (v ▸ us)) (token comma l i ∷ ks) r h0 h
+  -- the parameters are over: ) { FunctionBody }
+  pub function-last-parameter : {v : Tree} {ks r : List Token} {l i h0 : ℕ} → FunctionBody v ks r → List-of (commas true plainName (butLast (attrs (v ▸ nil))) (tok closeParen (inside blockOnly end))) (v ▸ nil) (token closeParen l i ∷ ks) r h0 (headOf v .hi)
+  -- FormalParameters : none, then ) => ConciseBody
+  pub arrow-no-parameter : {v : Tree} {ks r : List Token} {l i l2 i2 l3 i3 h0 : ℕ} → ConciseBody v ks r → List-of (parameters (butLast (attrs (v ▸ nil))) (tok arrow (child body end))) (v ▸ nil) (token openParen l i ∷ (token closeParen l2 i2 ∷ (token arrow l3 i3 ∷ ks))) r h0 (headOf v .hi)
+  -- FormalParameterList : BindingIdentifier
+  pub arrow-first-parameter : {u v : Tree} {us : Forest} {ks js r : List Token} {l i h0 h : ℕ} → IdentifierName u ks js → List-of (commas true plainName (butLast (attrs (v ▸ us))) (tok closeParen (tok arrow (child body end)))) (v ▸ us) js r (headOf u .hi) h → List-of (parameters (butLast (attrs (u ▸ (v ▸ us)))) (tok arrow (child body end))) (u ▸ (v ▸ us)) (token openParen l i ∷ ks) r h0 h
+  -- FormalParameterList : FormalParameterList , BindingIdentifier
+  pub arrow-next-parameter : {u v : Tree} {us : Forest} {ks js r : List Token} {l i h0 h : ℕ} → IdentifierName u ks js → List-of (commas true plainName (butLast (attrs (v ▸ us))) (tok closeParen (tok arrow (child body end)))) (v ▸ us) js r (headOf u .hi) h → List-of (commas true plainName (butLast (attrs (u ▸ (v ▸ us)))) (tok closeParen (tok arrow (child body end)))) (u ▸ (v ▸ us)) (token comma l i ∷ ks) r h0 h
+  -- the parameters are over: ) => ConciseBody
+  pub arrow-last-parameter : {v : Tree} {ks r : List Token} {l i l2 i2 h0 : ℕ} → ConciseBody v ks r → List-of (commas true plainName (butLast (attrs (v ▸ nil))) (tok closeParen (tok arrow (child body end)))) (v ▸ nil) (token closeParen l i ∷ (token arrow l2 i2 ∷ ks)) r h0 (headOf v .hi)
+  -- VariableDeclaration : BindingIdentifier
+  pub declare-name : {u : Tree} {us : Forest} {ks js r : List Token} {h0 h : ℕ} → IdentifierName u ks js → MoreDeclarations us js r (headOf u .hi) h → Declarations (u ▸ us) ks r h0 h
+  -- VariableDeclaration : BindingIdentifier = AssignmentExpression
+  pub declare-value : {u v : Tree} {us : Forest} {ks js ls r : List Token} {l i h0 h : ℕ} → DeclaredName u ks (token equals l i ∷ js) → AssignmentExpression v js ls → MoreDeclarations us ls r (headOf v .hi) h → Declarations (u ▸ (v ▸ us)) ks r h0 h
+  -- VariableDeclarationList : VariableDeclarationList , VariableDeclaration
+  pub next-declaration : {u : Tree} {us : Forest} {ks r : List Token} {l i h0 h : ℕ} → Declarations (u ▸ us) ks r i h → MoreDeclarations (u ▸ us) (token comma l i ∷ ks) r h0 h
+  -- the declarations are over: ;
+  pub last-declaration : {r : List Token} {l h0 h : ℕ} → MoreDeclarations nil (token semicolon l h ∷ r) r h0 h

@@ -2,7 +2,7 @@
 
 ghost use Rattle.grammar.specs.Rewriting.{Core-law, Good-full};
 ghost use Rattle.grammar.specs.Productions.{Units, Productions, Lists};
-ghost use Rattle.grammar.specs.Examples.{Examples-hold};
+ghost use Rattle.grammar.specs.Examples.{Examples-hold, Cores-hold};
 ghost use Rattle.grammar.specs.Claim.{Unambiguous, Read-derives, Derived-good, Good-derives};
 
 /// No token list has two readings.
@@ -33,9 +33,10 @@ pub fn good_is_derived() -> u8
     0
 }
 
-/// The worked examples read as they are written down.
+/// The worked examples read as they are written down, and have the core forms that are.
 pub fn examples_hold() -> u8
-    ensures { λ _. ⌜ Examples-hold ⌝ }
+    ensures readings { λ _. ⌜ Examples-hold ⌝ }
+    ensures cores { λ _. ⌜ Cores-hold ⌝ }
 {
     0
 }
