@@ -3,6 +3,7 @@ ghost use mathlib.Core.Path.{_≡_};
 ghost use Prim.Native.Nat.{ℕ, _<_};
 ghost use Rattle.std.specs.Orderings.{Decides};
 ghost use Rattle.comments.specs.declared.store.Side.{Side};
+ghost use Rattle.comments.specs.Laws.{Same-meaning};
 ghost use Rattle.comments.specs.Lists.{carried};
 use crate::carrying::carry;
 use crate::place::Move;
@@ -45,4 +46,11 @@ pub fn carry_both<A: Store, B: Store>(a: &mut A, b: &mut B, moves: &[Move])
 {
     carry(a, moves);
     carry(b, moves);
+}
+
+/// Stores with equal lists have equal lists after equal calls, whatever they are made of.
+pub fn same_meaning() -> u8
+    ensures { λ _. ⌜ Same-meaning ⌝ }
+{
+    0
 }

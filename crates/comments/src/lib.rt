@@ -7,6 +7,7 @@ mod store;
 pub use agree::carry_both;
 pub use agree::same_list;
 pub use agree::same_lists;
+pub use agree::same_meaning;
 pub use carrying::carry;
 pub use place::Move;
 pub use place::MoveDebug;

@@ -16,15 +16,15 @@ use comments::Side;
 
 /// The notes, the heads of the lists that are not empty, and how many comments are held.
 #[derive(Drop)]
-pub struct Chains<'a> {
-    pub notes: Notes<'a>,
-    pub heads: Heads<'a>,
-    pub held: u16,
+pub(crate) struct Chains<'a> {
+    pub(crate) notes: Notes<'a>,
+    pub(crate) heads: Heads<'a>,
+    pub(crate) held: u16,
 }
 
 impl<'a> Chains<'a> {
     /// Puts a comment last in the list on a side at an offset.
-    pub fn add(&mut self, side: Side, offset: u32, comment: u32)
+    pub(crate) fn add(&mut self, side: Side, offset: u32, comment: u32)
         requires idle { ⌜ Idle (now (now self .heads .slots)) (now self .heads .high) ⌝ }
         requires laid { ⌜ ∥ Laid (now (now self .notes .slots)) (now (now self .heads .slots)) (now self .notes .free) (now self .heads .free) (now self .held) ∥₁ ⌝ }
         requires room { ⌜ now self .held < min (room (length (now (now self .notes .slots)))) (room (length (now (now self .heads .slots)))) ⌝ }
@@ -60,7 +60,7 @@ impl<'a> Chains<'a> {
     }
 
     /// Moves the list on a side at one offset to the outer side of that at another.
-    pub fn splice(&mut self, side: Side, from: u32, to: u32)
+    pub(crate) fn splice(&mut self, side: Side, from: u32, to: u32)
         requires idle { ⌜ Idle (now (now self .heads .slots)) (now self .heads .high) ⌝ }
         requires laid { ⌜ ∥ Laid (now (now self .notes .slots)) (now (now self .heads .slots)) (now self .notes .free) (now self .heads .free) (now self .held) ∥₁ ⌝ }
         ensures idle { λ _. ⌜ Idle (now (now (self .exit) .heads .slots)) (now (self .exit) .heads .high) ⌝ }
@@ -103,7 +103,7 @@ impl<'a> Chains<'a> {
     }
 
     /// How many comments more there is room for: each takes a note, and at most a head.
-    pub fn spare(&self) -> u16
+    pub(crate) fn spare(&self) -> u16
         ensures { λ r. ⌜ r ≡ min (room (length (now (now (self .entry) .notes .slots)))) (room (length (now (now (self .entry) .heads .slots)))) - now (self .entry) .held ⌝ }
     {
         let most = self.notes.last_slot().min(self.heads.last_slot());
@@ -111,7 +111,7 @@ impl<'a> Chains<'a> {
     }
 
     /// How many comments the list on a side at an offset has.
-    pub fn count(&self, side: Side, offset: u32) -> usize
+    pub(crate) fn count(&self, side: Side, offset: u32) -> usize
         requires { ⌜ Idle (now (now self .heads .slots)) (now self .heads .high) ⌝ }
         ensures { λ r. ⌜ (Laid (now (now (self .entry) .notes .slots)) (now (now (self .entry) .heads .slots)) (now (self .entry) .notes .free) (now (self .entry) .heads .free) (now (self .entry) .held)
             → r ≡ length (listed (now (now (self .entry) .notes .slots)) (now (now (self .entry) .heads .slots)) side offset)) ⌝ }
@@ -123,7 +123,7 @@ impl<'a> Chains<'a> {
     }
 
     /// The comment at a rank of that list.
-    pub fn comment(&self, side: Side, offset: u32, rank: usize) -> Option<u32>
+    pub(crate) fn comment(&self, side: Side, offset: u32, rank: usize) -> Option<u32>
         requires { ⌜ Idle (now (now self .heads .slots)) (now self .heads .high) ⌝ }
         ensures { λ r. ⌜ (Laid (now (now (self .entry) .notes .slots)) (now (now (self .entry) .heads .slots)) (now (self .entry) .notes .free) (now (self .entry) .heads .free) (now (self .entry) .held)
             → r ≡ nth (listed (now (now (self .entry) .notes .slots)) (now (now (self .entry) .heads .slots)) side offset) rank) ⌝ }

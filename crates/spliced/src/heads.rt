@@ -65,9 +65,9 @@ pub impl Link for Head as HeadLink {
 
 /// Where a list was found.
 #[derive(Clone, Copy)]
-pub struct Found {
-    pub head: u16,
-    pub list: NoteList,
+pub(crate) struct Found {
+    pub(crate) head: u16,
+    pub(crate) list: NoteList,
 }
 
 /// The record of the list on a side at an offset, where no record past `high` holds one.
@@ -126,15 +126,15 @@ fn release(slots: &mut [Head], first: u16, head: u16)
 /// The caller's records, where the chain of the unused ones begins, and the last slot that ever held a list, so that a
 /// search need not go beyond.
 #[derive(Drop)]
-pub struct Heads<'a> {
-    pub slots: &'a mut [Head],
-    pub free: u16,
-    pub high: u16,
+pub(crate) struct Heads<'a> {
+    pub(crate) slots: &'a mut [Head],
+    pub(crate) free: u16,
+    pub(crate) high: u16,
 }
 
 impl<'a> Heads<'a> {
     /// All records unused.
-    pub fn new(slots: &'a mut [Head]) -> Self
+    pub(crate) fn new(slots: &'a mut [Head]) -> Self
         ensures chain { λ r. ⌜ Chain (head-links (now (r .slots))) (r .free) (slots-from 1 (room (length (now (slots .entry))))) ⌝ }
         ensures unused { λ r. ⌜ ((i : ℕ) → i < room (length (now (slots .entry))) → list-at (now (r .slots)) i ≡ None) ⌝ }
         ensures idle { λ r. ⌜ Idle (now (r .slots)) (r .high) ⌝ }
@@ -150,14 +150,14 @@ impl<'a> Heads<'a> {
         }
     }
 
-    pub fn last_slot(&self) -> u16
+    pub(crate) fn last_slot(&self) -> u16
         ensures { λ r. ⌜ r ≡ room (length (now (now (self .entry) .slots))) ⌝ }
     {
         chain::last_slot(self.slots)
     }
 
     /// The record of the list on a side at an offset.
-    pub fn find(&self, side: Side, offset: u32) -> Option<Found>
+    pub(crate) fn find(&self, side: Side, offset: u32) -> Option<Found>
         requires { ⌜ Idle (now (now self .slots)) (now self .high) ⌝ }
         ensures high { λ r. ⌜ BySome r (Unit {0}) (λ f. f .head ≤ now (self .entry) .high) ⌝ }
         ensures finds { λ r. ⌜ BySome r
@@ -169,7 +169,7 @@ impl<'a> Heads<'a> {
     }
 
     /// Takes an unused record for a list.
-    pub fn draw(&mut self, list: NoteList)
+    pub(crate) fn draw(&mut self, list: NoteList)
         requires slot { ⌜ Slot (length (now (now self .slots))) (now self .free) ⌝ }
         requires idle { ⌜ Idle (now (now self .slots)) (now self .high) ⌝ }
         ensures idle { λ _. ⌜ Idle (now (now (self .exit) .slots)) (now (self .exit) .high) ⌝ }
@@ -183,7 +183,7 @@ impl<'a> Heads<'a> {
     }
 
     /// Lets a record hold another list.
-    pub fn hold(&mut self, head: u16, list: NoteList)
+    pub(crate) fn hold(&mut self, head: u16, list: NoteList)
         requires slot { ⌜ Slot (length (now (now self .slots))) head ⌝ }
         requires idle { ⌜ Idle (now (now self .slots)) (now self .high) ⌝ ∗ ⌜ head ≤ now self .high ⌝ }
         ensures idle { λ _. ⌜ Idle (now (now (self .exit) .slots)) (now (self .exit) .high) ⌝ }
@@ -196,7 +196,7 @@ impl<'a> Heads<'a> {
     }
 
     /// Gives back the record of a list that has become empty.
-    pub fn give_back(&mut self, head: u16)
+    pub(crate) fn give_back(&mut self, head: u16)
         requires inside { ⌜ Slot (length (now (now self .slots))) head ⌝ }
         requires off { ⌜ Off (head-links (now (now self .slots))) (now self .free) head ⌝ }
         requires idle { ⌜ Idle (now (now self .slots)) (now self .high) ⌝ }

@@ -5,8 +5,6 @@ mod notes;
 mod store;
 
 pub use heads::Head;
-pub use heads::HeadLink;
 pub use notes::Note;
-pub use notes::NoteLink;
 pub use store::Spliced;
 pub use store::SplicedStore;

@@ -44,14 +44,14 @@ pub impl Link for Note as NoteLink {
 
 /// The caller's records, and where the chain of the unused ones begins.
 #[derive(Drop)]
-pub struct Notes<'a> {
-    pub slots: &'a mut [Note],
-    pub free: u16,
+pub(crate) struct Notes<'a> {
+    pub(crate) slots: &'a mut [Note],
+    pub(crate) free: u16,
 }
 
 impl<'a> Notes<'a> {
     /// All records unused.
-    pub fn new(slots: &'a mut [Note]) -> Self
+    pub(crate) fn new(slots: &'a mut [Note]) -> Self
         ensures chain { λ r. ⌜ Chain (links (now (r .slots))) (r .free) (slots-from 1 (room (length (now (slots .entry))))) ⌝ }
         ensures beyond { λ r. ⌜ Beyond (now (slots .entry)) (now (r .slots)) ⌝ }
         ensures lender { λ r. ⌜ name (r .slots) ≡ name (slots .entry) ⌝ }
@@ -60,28 +60,28 @@ impl<'a> Notes<'a> {
         Notes { slots, free }
     }
 
-    pub fn last_slot(&self) -> u16
+    pub(crate) fn last_slot(&self) -> u16
         ensures { λ r. ⌜ r ≡ room (length (now (now (self .entry) .slots))) ⌝ }
     {
         chain::last_slot(self.slots)
     }
 
     /// How many comments the list that begins at `first` has.
-    pub fn count(&self, first: u16) -> usize
+    pub(crate) fn count(&self, first: u16) -> usize
         ensures { λ r. ⌜ ((ks : List ℕ) → Chain (links (now (now (self .entry) .slots))) first ks → r ≡ length ks) ⌝ }
     {
         usize::from(chain::count(self.slots, first))
     }
 
     /// The comment at a rank of that list; none past its end.
-    pub fn comment(&self, first: u16, rank: usize) -> Option<u32>
+    pub(crate) fn comment(&self, first: u16, rank: usize) -> Option<u32>
         ensures { λ r. ⌜ ((ks : List ℕ) → Chain (links (now (now (self .entry) .slots))) first ks → r ≡ nth (map (comment-at (comments (now (now (self .entry) .slots)))) ks) rank) ⌝ }
     {
         comment_at(self.slots, first, rank)
     }
 
     /// Takes an unused record for a comment that ends its list.
-    pub fn draw(&mut self, comment: u32) -> u16
+    pub(crate) fn draw(&mut self, comment: u32) -> u16
         requires { ⌜ Slot (length (now (now self .slots))) (now self .free) ⌝ }
         ensures slot { λ r. ⌜ r ≡ now (self .entry) .free ⌝ }
         ensures free { λ r. ⌜ now (self .exit) .free ≡ link-at (links (now (now (self .entry) .slots))) r ⌝ }
@@ -94,7 +94,7 @@ impl<'a> Notes<'a> {
     }
 
     /// Leads the list that ends at `last` on to the one that begins at `first`.
-    pub fn join(&mut self, last: u16, first: u16)
+    pub(crate) fn join(&mut self, last: u16, first: u16)
         requires { ⌜ Slot (length (now (now self .slots))) last ⌝ }
         ensures free { λ _. ⌜ now (self .exit) .free ≡ now (self .entry) .free ⌝ }
         ensures records { λ _. ⌜ now (now (self .exit) .slots) ≡ relinked linked-note (now (now (self .entry) .slots)) last first (record { comment = 0; next = 0 }) ⌝ }
