@@ -42,7 +42,7 @@ use Rattle.kinds.specs.declared.operator.Side.the-variants as side
 use Rattle.kinds.specs.declared.level.Slot.{Slot}
 use Rattle.kinds.specs.declared.level.Slot.the-variants as slot
 use Rattle.grammar.specs.Codes.{openParen, closeParen, openBracket, closeBracket, openBrace, closeBrace, semicolon, comma, dot, colon, question, questionDot, arrow, equals, wordThis, wordFunction, wordIn, wordNew, wordAwait, wordYield, wordVar, wordReturn, wordIf, wordElse, wordWhile, wordFor, constantCode, unaryCode, updateCode, binaryCode}
-use Rattle.grammar.specs.Site.{ok, isExpression, Sort, expression, statement, block, declaration, property, script, nothing, sortRank, Attr, isSort, valued, Site, at, start, body, blockOnly, stmt, closed, init, varInit, forLeft, varIn, prop, plainName, valuedName, keyName, root}
+use Rattle.grammar.specs.Site.{ok, isExpression, Sort, expression, statement, block, declaration, property, script, nothing, sortRank, Attr, isSort, valued, Site, at, start, body, blockOnly, stmt, closed, init, varInit, varIn, prop, plainName, valuedName, keyName, root}
 use Rattle.grammar.specs.Tree.{Head, head, headOf, Tree, Forest, node, nil, _▸_}
 use Rattle.grammar.specs.Layout.{Lay, end, tok, child, inside, commas, listed, run, rest, butLast, argumentsOf, parameters, names, fnOf, varOf, initSite, leftSite, kid, firstStanding, layout, attr, attrs, attrOf}
 use Rattle.grammar.specs.Derives.{token, loOf, Derives, Follows, derive, d-end, d-stop, d-tok, d-kid}
@@ -144,15 +144,15 @@ from-var-init {t} {ks} {r} d =
     let e : isSort declaration (attr t) ≡ true = is-true _ (and-l (isSort declaration (attr t)) _ (derives-good d .0)) in
     subst (λ (b : Bool). Derives (cond b varInit init) t ks r) (sym e) d
 
-from-left : {t : Tree} {ks r : List Token} → Derives forLeft t ks r → Derives (cond (isSort declaration (attr t)) varIn forLeft) t ks r
+from-left : {t : Tree} {ks r : List Token} → Derives (at slot.Target) t ks r → Derives (cond (isSort declaration (attr t)) varIn (at slot.Target)) t ks r
 from-left {t} {ks} {r} d =
     let e : isSort declaration (attr t) ≡ false = not-declaration (attr t .sort) (and-l (isExpression (attr t)) _ (derives-good d .0)) in
-    subst (λ (b : Bool). Derives (cond b varIn forLeft) t ks r) (sym e) d
+    subst (λ (b : Bool). Derives (cond b varIn (at slot.Target)) t ks r) (sym e) d
 
-from-var-in : {t : Tree} {ks r : List Token} → Derives varIn t ks r → Derives (cond (isSort declaration (attr t)) varIn forLeft) t ks r
+from-var-in : {t : Tree} {ks r : List Token} → Derives varIn t ks r → Derives (cond (isSort declaration (attr t)) varIn (at slot.Target)) t ks r
 from-var-in {t} {ks} {r} d =
     let e : isSort declaration (attr t) ≡ true = is-true _ (and-l (isSort declaration (attr t)) _ (derives-good d .0)) in
-    subst (λ (b : Bool). Derives (cond b varIn forLeft) t ks r) (sym e) d
+    subst (λ (b : Bool). Derives (cond b varIn (at slot.Target)) t ks r) (sym e) d
 
 -- An expression is no Name with a value.
 not-valued : (s : Sort) → T (eqb 0 (sortRank s)) → eqb 5 (sortRank s) ≡ false

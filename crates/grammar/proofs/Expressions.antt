@@ -46,7 +46,7 @@ use Rattle.kinds.specs.declared.level.Slot.{Slot}
 use Rattle.kinds.specs.declared.level.Slot.the-variants as slot
 use Rattle.kinds.specs.Levels.{Standing, sequence, assignment, conditional, unary, update, bareNew, optional, call, callMember, primary, member, isC, isO, isTarget, binaryStanding, fits}
 use Rattle.grammar.specs.Codes.{openParen, closeParen, openBracket, closeBracket, openBrace, closeBrace, semicolon, comma, dot, colon, question, questionDot, arrow, equals, wordThis, wordFunction, wordIn, wordNew, wordAwait, wordYield, wordVar, wordReturn, wordIf, wordElse, wordWhile, wordFor, constantCode, unaryCode, updateCode, binaryCode}
-use Rattle.grammar.specs.Site.{Sort, expression, statement, block, declaration, property, valued, script, nothing, sortRank, Begin, brace, function, other, Attr, isSort, isExpression, isStatement, isOther, isBrace, Site, at, start, body, blockOnly, stmt, closed, init, varInit, forLeft, varIn, prop, plainName, valuedName, keyName, root, ok, inHead}
+use Rattle.grammar.specs.Site.{Sort, expression, statement, block, declaration, property, valued, script, nothing, sortRank, Begin, brace, function, other, Attr, isSort, isExpression, isStatement, isOther, isBrace, Site, at, start, body, blockOnly, stmt, closed, init, varInit, varIn, prop, plainName, valuedName, keyName, root, ok, inHead}
 use Rattle.grammar.specs.Tree.{Head, head, headOf, Tree, Forest, node, nil, _▸_}
 use Rattle.grammar.specs.Layout.{Lay, end, stop, tok, kid, commas, listed, layout, inOperator, attrOf, attr, attrs, anyOpen, lastDangles, codeBegin, rest, butLast, names as namesOf, run as runOf, initSite, leftSite}
 use Rattle.kinds.specs.Levels.{leftSlot, rightSlot}
@@ -55,7 +55,7 @@ use Rattle.grammar.specs.Parser.{Goal, ex, stm, blk, dec, prp, nam, scr, Mode,
 use Rattle.grammar.proofs.Tests.{and-l, and-r, and-i, or-l, is-true, is-false, no-both, imp, mp}
 use Rattle.grammar.proofs.Laws.{called, guard, ends as endsAt, closes, closes-ends, guard-real, guard-first, isNever, isComma, isCall, isBoth, edge-unary, edge-assignment, edge-conditional, edge-bare-new, edge-update, edge-binary, edge-sequence, edge-name, no-list, callee, no-operand, end-closes, comma-closes, in-closes, in-closes-item, target-call, call-optional, chain-optional}
 use Rattle.grammar.proofs.Fills.{Fills, f-end, f-stop, f-tok, f-kid}
-use Rattle.grammar.proofs.Steps.{Claim, Through, To, Parses, Runs, goes, okAfter, tokenBegin, not-starts, no-start, stop as stops, parses, run-fin, run-eat, run-sub, run-as, run-if, run-else, begin-eat, begin-sub, begin-frame, peek-yes, peek-no, operand-some, operand-none, behind-none}
+use Rattle.grammar.proofs.Steps.{tight, Claim, Through, To, Parses, Runs, goes, okAfter, tokenBegin, not-starts, no-start, stop as stops, parses, run-fin, run-eat, run-sub, run-as, run-if, run-else, begin-eat, begin-sub, begin-frame, peek-yes, peek-no, operand-some, operand-none, behind-none}
 use Rattle.grammar.proofs.Lists.{nor-l, nor-r, cond-t, cond-f, first-opens, first-not, at-expression, at-fits, parses-at, after-item, more-runs, items-run, list-runs, names-run, name-expression, name-fits, name-alone, parses-name, parses-statement, parses-last, parses-closed, statements-run}
 
 -- An expression is read for a slot alone.

@@ -46,7 +46,7 @@ use Rattle.kinds.specs.declared.level.Slot.{Slot}
 use Rattle.kinds.specs.declared.level.Slot.the-variants as slot
 use Rattle.kinds.specs.Levels.{fits}
 use Rattle.grammar.specs.Codes.{openParen, openBracket, openBrace, closeBrace, wordElse}
-use Rattle.grammar.specs.Site.{Sort, Begin, script, declaration, block, nothing, property, Attr, isSort, isExpression, isStatement, isOther, isBrace, Site, at, start, body, blockOnly, stmt, closed, init, varInit, forLeft, varIn, prop, plainName, valuedName, keyName, root, ok}
+use Rattle.grammar.specs.Site.{Sort, Begin, script, declaration, block, nothing, property, Attr, isSort, isExpression, isStatement, isOther, isBrace, Site, at, start, body, blockOnly, stmt, closed, init, varInit, varIn, prop, plainName, valuedName, keyName, root, ok}
 use Rattle.grammar.specs.Tree.{Head, head, headOf, Tree, Forest, node, nil, _▸_}
 use Rattle.grammar.specs.Layout.{Lay, end, stop, tok, kid, layout, attrOf, attr, attrs, beginOf}
 use Rattle.grammar.specs.Derives.{token}
@@ -66,7 +66,6 @@ exprSite stmt = false
 exprSite closed = false
 exprSite init = true
 exprSite varInit = false
-exprSite forLeft = true
 exprSite varIn = false
 exprSite prop = false
 exprSite plainName = true
@@ -83,7 +82,6 @@ site-expression stmt a h k = absurd h
 site-expression closed a h k = absurd h
 site-expression init a h k = and-l (isExpression a) _ k
 site-expression varInit a h k = absurd h
-site-expression forLeft a h k = and-l (isExpression a) _ k
 site-expression varIn a h k = absurd h
 site-expression prop a h k = absurd h
 site-expression plainName a h k = and-l (isExpression a) _ k

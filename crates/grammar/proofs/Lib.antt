@@ -17,3 +17,4 @@ pub mod CoreParts
 pub mod CoreForm
 pub mod CoreGood
 pub mod Document
+pub mod Shut

@@ -5,13 +5,13 @@ use mathlib.Core.Bool.{Bool, true, false, cond, not, _&&_, _||_}
 use mathlib.Core.Option.{Option, none, some}
 use Prim.Native.Nat.{ℕ, zero, suc, _+_, _-_, _*_, _≤_, _<_}
 use native.Mathlib.Omega.{arith}
-use lib.Dec.{T, eqb, eqb-refl}
+use lib.Dec.{T, leb, eqb, eqb-refl}
 use lib.ListN.{length}
 use Rattle.token.specs.Same.{sameCode, sort, rank}
 use Rattle.token.proofs.Same.{same-one, same-self}
 use Rattle.token.specs.declared.Token.{Token}
 use Rattle.token.specs.declared.Code.{Code}
-use Rattle.kinds.specs.Levels.{fits}
+use Rattle.kinds.specs.Levels.{level, fits}
 use Rattle.kinds.specs.declared.form.Form.{Form}
 use Rattle.kinds.specs.declared.level.Slot.{Slot}
 use Rattle.kinds.specs.declared.level.Slot.the-variants as slot
@@ -62,6 +62,10 @@ pub record Through (b : Bool) (q : Goal) (t : Tree) (ks r : List Token) : Type 0
 pub record To (h : Bool) (t : Tree) (ks r : List Token) : Type 0 where
   pub via : (b : Bool) (q : Goal) → T (goes h q (attr t)) → T (b || not (attr t .bareIn)) → T (okAfter b q (attr t) r) → Through b q t ks r
 
+-- Of level 16, or a Var of one Name without value: no `in` stands in the open in such a tree.
+abbrev pub tight : Attr → Bool
+tight a = cond (isExpression a) (leb 16 (level (a .standing))) (isSort declaration a && a .single)
+
 pub record Claim (s : Site) (t : Tree) (ks r : List Token) : Type 0 where
   pub fit : T (ok s (attr t))
   pub lo : headOf t .lo ≡ loOf ks
@@ -70,6 +74,7 @@ pub record Claim (s : Site) (t : Tree) (ks r : List Token) : Type 0 where
   pub firstly : T (firsts (attr t) ks)
   pub begin : T (isExpression (attr t)) → attr t .begin ≡ tokenBegin ks
   pub alone : T (isExpression (attr t) && attr t .single) → T (isOther (tokenBegin ks) && (not (starts openBracket ks) && not (starts openParen ks)))
+  pub shut : T (tight (attr t)) → T (not (attr t .bareIn))
   pub skips : (d : ℕ) → skip d ks ≡ skip d r
   pub to : To (inHead s) t ks r
 

@@ -40,7 +40,7 @@ use Rattle.kinds.specs.declared.operator.BinaryOperator.the-variants as binary
 use Rattle.kinds.specs.declared.level.Slot.{Slot}
 use Rattle.kinds.specs.declared.level.Slot.the-variants as slot
 use Rattle.grammar.specs.Codes.{openParen, closeParen, openBracket, closeBracket, openBrace, closeBrace, semicolon, comma, dot, colon, question, questionDot, arrow, equals, wordThis, wordFunction, wordIn, wordNew, wordAwait, wordYield, wordVar, wordReturn, wordIf, wordElse, wordWhile, wordFor, constantCode, unaryCode, updateCode, binaryCode}
-use Rattle.grammar.specs.Site.{Sort, expression, statement, block, declaration, property, valued, script, nothing, Begin, brace, function, other, Attr, isSort, Site, at, start, body, blockOnly, stmt, closed, init, varInit, forLeft, varIn, prop, plainName, valuedName, keyName, root, ok, inHead}
+use Rattle.grammar.specs.Site.{Sort, expression, statement, block, declaration, property, valued, script, nothing, Begin, brace, function, other, Attr, isSort, Site, at, start, body, blockOnly, stmt, closed, init, varInit, varIn, prop, plainName, valuedName, keyName, root, ok, inHead}
 use Rattle.grammar.specs.Tree.{Head, Tree, Forest, node, nil, _▸_}
 
 pub data Lay : Type 0 where
@@ -156,8 +156,8 @@ forOf i t u cs =
     tok openParen (part i (initSite cs) (tok semicolon (part t (at slot.Expression) (tok semicolon (part u (at slot.Expression) (tok closeParen (child stmt end)))))))
 
 abbrev pub leftSite : List Attr → Site
-leftSite [] = forLeft
-leftSite (c ∷ cs) = cond (isSort declaration c) varIn forLeft
+leftSite [] = at slot.Target
+leftSite (c ∷ cs) = cond (isSort declaration c) varIn (at slot.Target)
 
 abbrev pub nameOf : Binding → Code
 nameOf b = code.Name

@@ -45,7 +45,7 @@ use Rattle.kinds.specs.declared.operator.Side.the-variants as side
 use Rattle.kinds.specs.declared.level.Slot.{Slot}
 use Rattle.kinds.specs.declared.level.Slot.the-variants as slot
 use Rattle.grammar.specs.Codes.{openParen, closeParen, openBracket, closeBracket, openBrace, closeBrace, semicolon, comma, dot, colon, question, questionDot, arrow, equals, wordThis, wordFunction, wordIn, wordNew, wordAwait, wordYield, wordVar, wordReturn, wordIf, wordElse, wordWhile, wordFor, constantCode, unaryCode, updateCode, binaryCode}
-use Rattle.grammar.specs.Site.{Sort, expression, statement, block, declaration, property, script, nothing, sortRank, Attr, isSort, valued, Site, at, start, body, blockOnly, stmt, closed, init, varInit, forLeft, varIn, prop, plainName, valuedName, keyName, root}
+use Rattle.grammar.specs.Site.{Sort, expression, statement, block, declaration, property, script, nothing, sortRank, Attr, isSort, valued, Site, at, start, body, blockOnly, stmt, closed, init, varInit, varIn, prop, plainName, valuedName, keyName, root}
 use Rattle.grammar.specs.Tree.{Head, head, headOf, Tree, Forest, node, nil, _▸_}
 use Rattle.grammar.specs.Layout.{Lay, end, tok, child, inside, commas, listed, run, rest, butLast, argumentsOf, parameters, names, fnOf, varOf, initSite, leftSite, layout, attr, attrs}
 use Rattle.grammar.specs.Derives.{token, loOf, Derives, Follows}
@@ -159,7 +159,7 @@ abbrev pub NoInExpression : Tree → List Token → List Token → Type 0
 NoInExpression t ks r = Derives init t ks r
 
 abbrev pub ForInTarget : Tree → List Token → List Token → Type 0
-ForInTarget t ks r = Derives forLeft t ks r
+ForInTarget t ks r = Derives (at slot.Target) t ks r
 
 -- The first part of a head: an expression or a Var.
 abbrev pub ForInit : Tree → List Token → List Token → Type 0
