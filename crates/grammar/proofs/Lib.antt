@@ -18,3 +18,4 @@ pub mod CoreForm
 pub mod CoreGood
 pub mod Document
 pub mod Shut
+pub mod Places
