@@ -1,6 +1,6 @@
 -- Laws of the tables: what may stand behind an expression where it ends. Each is found by computing over all slots, standings and frames.
-use mathlib.Core.Path.{_≡_, refl}
-use mathlib.Core.Bool.{Bool, true, false, cond, not, _&&_, _||_}
+use mathlib.Core.Path.{_≡_}
+use mathlib.Core.Bool.{Bool, true, false, not, _&&_, _||_}
 use mathlib.Core.List.{List, [], _∷_}
 use mathlib.Core.Option.{Option, none, some}
 use Prim.Native.Nat.{ℕ, zero, suc}
@@ -12,7 +12,7 @@ use Rattle.kinds.specs.declared.operator.BinaryOperator.{BinaryOperator}
 use Rattle.kinds.specs.declared.operator.BinaryOperator.the-variants as binary
 use Rattle.kinds.specs.Levels.{rightSlot}
 use Rattle.grammar.specs.Parser.{Frame, fSeq, fAsg, fCnd, fNul, fOr, fAnd, fBor, fXor, fBand, fEq, fRel, fIn, fShf, fAdd, fMul, fPow, fPost, fMem, fCall, fLink, fEnd, fNever, firstSlot, grown, isFrame, takes}
-use Rattle.grammar.proofs.Tests.{and-l, and-r, and-i, or-l, or-r, is-true, is-false, imp, mp}
+use Rattle.grammar.proofs.Tests.{and-l, and-r, and-i, or-l, or-r, is-false, imp, mp}
 
 -- A test of every element, and what it says of the element at a place.
 abbrev pub all : {A : Type 0} → (A → Bool) → List A → Bool

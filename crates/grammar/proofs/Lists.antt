@@ -1,28 +1,26 @@
 -- Lists of children: items between brackets, statements one after the other.
-use mathlib.Core.Path.{_≡_, refl, sym, _∙_, ap, subst}
+use mathlib.Core.Path.{_≡_, refl}
 use mathlib.Core.List.{List, [], _∷_}
 use mathlib.Core.Bool.{Bool, true, false, cond, not, _&&_, _||_}
-use Prim.Native.Nat.{ℕ, zero, suc, _+_, _*_, _≤_, _<_}
+use Prim.Native.Nat.{ℕ}
 use native.Mathlib.Omega.{arith}
 use lib.Dec.{T, eqb}
-use lib.ListN.{length}
 use Rattle.token.specs.Same.{sameCode}
 use Rattle.token.specs.declared.Token.{Token}
 use Rattle.token.specs.declared.Code.{Code}
-use Rattle.kinds.specs.Levels.{Standing, fits}
+use Rattle.kinds.specs.Levels.{fits}
 use Rattle.kinds.specs.declared.form.Form.{Form}
 use Rattle.kinds.specs.declared.level.Slot.{Slot}
 use Rattle.kinds.specs.declared.level.Slot.the-variants as slot
-use Rattle.grammar.specs.Codes.{openParen, openBracket, openBrace, closeBrace, closeParen, closeBracket, comma, equals, wordElse, wordVar, colon}
-use Rattle.grammar.specs.Site.{Sort, expression, statement, block, declaration, property, valued, script, nothing, sortRank, Attr, isSort, isExpression, isStatement, Site, at, stmt, closed, body, blockOnly, prop, plainName, isOther, ok, inHead}
-use Rattle.grammar.specs.Tree.{Head, head, headOf, Tree, Forest, node, nil, _▸_}
-use Rattle.grammar.specs.Layout.{Lay, end, tok, kid, commas, listed, run, attr, attrs, anyOpen}
-use Rattle.grammar.specs.Derives.{token}
-use Rattle.grammar.specs.Parser.{Goal, ex, stm, blk, prp, Mode, same, free, mode, Do, fin, eat, sub, more, items, stms, starts, opens, firstOpens, atStop, after, next, Frame, fSeq, fEnd, frame, settle}
-use Rattle.grammar.proofs.Tests.{imp, and-l, and-r, and-i, is-true, is-false}
-use Rattle.grammar.proofs.Laws.{called, guard, ends, closes, closes-ends, end-closes, comma-closes, edge-name}
-use Rattle.grammar.proofs.Fills.{Fills, f-end, f-tok, f-kid}
-use Rattle.grammar.proofs.Steps.{Claim, Parses, Runs, firsts, tokenBegin, not-starts, stop, parses, not-script, run-fin, run-eat, run-sub, run-as, items-none, items-some, more-none, stms-none, stms-some}
+use Rattle.grammar.specs.Codes.{openParen, openBracket, openBrace, closeParen, comma, wordElse, wordVar}
+use Rattle.grammar.specs.Site.{Sort, expression, statement, block, declaration, property, valued, script, nothing, sortRank, Attr, isSort, isExpression, isStatement, Site, at, stmt, closed, plainName, isOther}
+use Rattle.grammar.specs.Tree.{Tree, Forest}
+use Rattle.grammar.specs.Layout.{Lay, tok, commas, listed, run, attr, attrs, anyOpen}
+use Rattle.grammar.specs.Parser.{Goal, ex, stm, Mode, free, mode, Do, eat, more, items, stms, starts, opens, firstOpens, atStop, after, next, Frame, fSeq, fEnd, frame}
+use Rattle.grammar.proofs.Tests.{imp, and-l, and-r, and-i, is-false}
+use Rattle.grammar.proofs.Laws.{called, closes, closes-ends, end-closes, comma-closes, edge-name}
+use Rattle.grammar.proofs.Fills.{Fills, f-tok, f-kid}
+use Rattle.grammar.proofs.Steps.{Claim, Parses, Runs, tokenBegin, not-starts, stop, parses, run-eat, run-sub, run-as, items-none, items-some, more-none, stms-none, stms-some}
 
 -- `b`, or neither of x and y.
 pub nor-l : (b x y : Bool) → T (b || not (x || y)) → T (b || not x)

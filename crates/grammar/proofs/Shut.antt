@@ -1,54 +1,31 @@
 -- Nothing of level 16 has an `in` in the open, and no Var of one Name without value: so the left side of a ForIn needs no rule of its own for `in`.
-use mathlib.Core.Path.{_≡_, refl, sym, _∙_, ap, subst}
+use mathlib.Core.Path.{_≡_, refl, subst}
 use mathlib.Core.List.{List, [], _∷_}
-use mathlib.Core.Bool.{Bool, true, false, cond, not, _&&_, _||_}
+use mathlib.Core.Bool.{Bool, true, false, cond, not, _||_}
 use Prim.Native.Nat.{ℕ}
-use lib.Dec.{T, leb, eqb}
+use lib.Dec.{T, leb}
 use Rattle.token.specs.declared.Token.{Token}
-use Rattle.token.specs.declared.Code.{Code}
-use Rattle.token.specs.declared.Code.the-variants as code
 use Rattle.token.specs.declared.word.Word.{Word}
-use Rattle.token.specs.declared.word.Word.the-variants as word
-use Rattle.token.specs.declared.punctuator.Punctuator.{Punctuator}
-use Rattle.token.specs.declared.punctuator.Punctuator.the-variants as punctuator
-use Rattle.token.specs.declared.operator.Operator.{Operator}
-use Rattle.token.specs.declared.operator.Operator.the-variants as operator
-use Rattle.token.specs.declared.operator.AssignOperator.{AssignOperator}
-use Rattle.token.specs.declared.operator.AssignOperator.the-variants as assign
-use Rattle.kinds.specs.declared.operator.UnaryOperator.{UnaryOperator}
-use Rattle.kinds.specs.declared.operator.UnaryOperator.the-variants as unary
-use Rattle.kinds.specs.declared.operator.UpdateOperator.{UpdateOperator}
-use Rattle.kinds.specs.declared.operator.UpdateOperator.the-variants as update
-use Rattle.kinds.specs.declared.operator.BinaryOperator.{BinaryOperator}
 use Rattle.kinds.specs.declared.operator.BinaryOperator.the-variants as binary
-use Rattle.kinds.specs.declared.form.Constant.{Constant}
-use Rattle.kinds.specs.declared.form.Constant.the-variants as constant
 use Rattle.kinds.specs.declared.form.Form.{Form}
 use Rattle.kinds.specs.declared.form.Form.the-variants as form
-use Rattle.kinds.specs.declared.form.Binding.{Binding}
 use Rattle.kinds.specs.declared.form.Binding.the-variants as binding
 use Rattle.kinds.specs.declared.form.Key.{Key}
 use Rattle.kinds.specs.declared.form.Key.the-variants as key
-use Rattle.kinds.specs.declared.form.Own.{Own}
 use Rattle.kinds.specs.declared.form.Own.the-variants as own
-use Rattle.kinds.specs.declared.form.Arguments.{Arguments}
 use Rattle.kinds.specs.declared.form.Arguments.the-variants as arguments
-use Rattle.kinds.specs.declared.form.Link.{Link}
 use Rattle.kinds.specs.declared.form.Link.the-variants as link
-use Rattle.kinds.specs.declared.form.Entry.{Entry}
 use Rattle.kinds.specs.declared.form.Entry.the-variants as entry
-use Rattle.kinds.specs.declared.operator.Side.{Side}
-use Rattle.kinds.specs.declared.operator.Side.the-variants as side
 use Rattle.kinds.specs.declared.level.Slot.{Slot}
 use Rattle.kinds.specs.declared.level.Slot.the-variants as slot
-use Rattle.kinds.specs.Levels.{Standing, member, callMember, primary, isC, isTarget, level, fits}
+use Rattle.kinds.specs.Levels.{level, fits}
 use Rattle.grammar.specs.Codes.{closeParen, equals}
-use Rattle.grammar.specs.Site.{Sort, declaration, valued, Attr, isSort, isExpression, Site, at, body, blockOnly, plainName, valuedName, prop, inHead, ok}
-use Rattle.grammar.specs.Tree.{Tree, Forest, node, nil, _▸_}
-use Rattle.grammar.specs.Layout.{Lay, end, stop, tok, kid, inside, commas, listed, layout, attrOf, attr, attrs, anyOpen, rest, butLast, names, varOf, isIn}
-use Rattle.grammar.proofs.Tests.{and-l, and-r, and-i, imp, mp}
+use Rattle.grammar.specs.Site.{valued, Attr, isSort, isExpression, Site, at, blockOnly, plainName, valuedName}
+use Rattle.grammar.specs.Tree.{Tree, Forest, nil, _▸_}
+use Rattle.grammar.specs.Layout.{Lay, end, tok, kid, commas, listed, layout, attrOf, attr, attrs, anyOpen, butLast, names}
+use Rattle.grammar.proofs.Tests.{and-l, and-r, imp, mp}
 use Rattle.grammar.proofs.Laws.{all, standings, at-standing}
-use Rattle.grammar.proofs.Fills.{Fills, f-end, f-stop, f-tok, f-kid}
+use Rattle.grammar.proofs.Fills.{Fills, f-end, f-tok, f-kid}
 use Rattle.grammar.proofs.Steps.{tight, Claim}
 
 -- Lists between brackets open nothing.

@@ -2,12 +2,12 @@
 use mathlib.Core.Path.{_≡_, refl, sym, _∙_, ap, subst}
 use mathlib.Core.List.{List, [], _∷_}
 use mathlib.Core.Bool.{Bool, true, false, cond, not, _&&_, _||_}
-use mathlib.Core.Option.{Option, none, some}
+use mathlib.Core.Option.{some}
 use Prim.Native.Nat.{ℕ, zero, suc, _+_, _-_, _*_, _≤_, _<_}
 use native.Mathlib.Omega.{arith}
-use lib.Dec.{T, leb, eqb, eqb-refl}
+use lib.Dec.{T, leb, eqb}
 use lib.ListN.{length}
-use Rattle.token.specs.Same.{sameCode, sort, rank}
+use Rattle.token.specs.Same.{sameCode, sort}
 use Rattle.token.proofs.Same.{same-one, same-self}
 use Rattle.token.specs.declared.Token.{Token}
 use Rattle.token.specs.declared.Code.{Code}
@@ -16,13 +16,13 @@ use Rattle.kinds.specs.declared.form.Form.{Form}
 use Rattle.kinds.specs.declared.level.Slot.{Slot}
 use Rattle.kinds.specs.declared.level.Slot.the-variants as slot
 use Rattle.grammar.specs.Codes.{openParen, openBracket, openBrace, closeBrace, comma, equals, wordElse, wordVar}
-use Rattle.grammar.specs.Site.{Sort, expression, statement, block, declaration, property, valued, script, nothing, sortRank, Attr, Begin, other, isOther, isSort, isExpression, isStatement, Site, at, ok, inHead}
-use Rattle.grammar.specs.Tree.{Head, head, headOf, Tree, Forest, node, nil, _▸_}
+use Rattle.grammar.specs.Site.{Sort, expression, statement, block, declaration, property, valued, script, nothing, sortRank, Attr, Begin, other, isOther, isSort, isExpression, isStatement, Site, ok, inHead}
+use Rattle.grammar.specs.Tree.{head, headOf, Tree, Forest, node, nil, _▸_}
 use Rattle.grammar.specs.Layout.{attr, codeBegin}
 use Rattle.grammar.specs.Derives.{token, loOf}
-use Rattle.grammar.specs.Parser.{Goal, ex, stm, blk, dec, prp, nam, scr, Mode, mode, free, Do, fin, eat, sub, peek, more, items, stms, operand, behind, starts, skip, firstOpens, atStop, prefix, frameDo, After, after, next, Frame, fEnd, fIn, frame, isFrame, firstSlot, grown, takes, goesOn, settle, Ran, ran, bind, parse, loop, perform}
-use Rattle.grammar.proofs.Tests.{imp, and-l, and-r, and-i, is-true, is-false}
-use Rattle.grammar.proofs.Laws.{called, guard, ends, closes, closes-ends, ends-guard, ends-stop, guard-first, closure}
+use Rattle.grammar.specs.Parser.{Goal, ex, stm, blk, dec, prp, nam, scr, Mode, mode, free, Do, fin, eat, sub, peek, more, items, stms, operand, behind, starts, skip, firstOpens, atStop, prefix, frameDo, After, after, next, Frame, frame, takes, goesOn, settle, ran, parse, loop, perform}
+use Rattle.grammar.proofs.Tests.{imp, and-i, is-true}
+use Rattle.grammar.proofs.Laws.{called, guard, ends, closes, ends-guard, ends-stop, closure}
 
 -- What the tokens of a tree begin with, by its sort.
 abbrev pub firsts : Attr → List Token → Bool
