@@ -9,11 +9,12 @@ use Rattle.token.specs.declared.Token.{Token}
 use Rattle.kinds.specs.declared.form.Form.the-variants as form
 use Rattle.kinds.specs.declared.level.Slot.the-variants as slot
 use Rattle.grammar.specs.Codes.{semicolon, comma, equals, wordVar}
-use Rattle.grammar.specs.Site.{Sort, expression, statement, block, declaration, property, valued, script, nothing, sortRank, isSort, plainName, valuedName}
+use Rattle.grammar.specs.Site.{Sort, valued, script, sortRank, isSort, plainName, valuedName}
 use Rattle.grammar.specs.Tree.{head, Tree, Forest, node, nil, _▸_}
 use Rattle.grammar.specs.Layout.{tok, kid, layout, attr, attrs, anyOpen, names as namesOf}
 use Rattle.grammar.specs.Derives.{token, loOf}
 use Rattle.grammar.specs.Parser.{Goal, ex, stm, blk, dec, prp, nam, scr, same, Do, fin, eat, sub, names, behind, starts, next, frame}
+use Rattle.grammar.proofs.Sorts.{by-sort}
 use Rattle.grammar.proofs.Tests.{and-l, and-r, and-i, or-l, is-false}
 use Rattle.grammar.proofs.Laws.{closes, end-closes, comma-closes}
 use Rattle.grammar.proofs.Fills.{Fills, f-stop, f-tok, f-kid}
@@ -23,24 +24,10 @@ use Rattle.grammar.specs.Derives.{Stops}
 use Rattle.grammar.specs.Layout.{varOf}
 
 valued-not-script : (s : Sort) → T (eqb 5 (sortRank s)) → T (not (eqb 6 (sortRank s)))
-valued-not-script expression h = tt
-valued-not-script statement h = tt
-valued-not-script block h = tt
-valued-not-script declaration h = tt
-valued-not-script property h = tt
-valued-not-script valued h = tt
-valued-not-script script h = h
-valued-not-script nothing h = tt
+valued-not-script s h = by-sort (λ s. eqb 5 (sortRank s)) (λ s. not (eqb 6 (sortRank s))) tt s h
 
 name-not-script : (s : Sort) → T (eqb 0 (sortRank s)) → T (not (eqb 6 (sortRank s)) && not (eqb 5 (sortRank s)))
-name-not-script expression h = tt
-name-not-script statement h = tt
-name-not-script block h = tt
-name-not-script declaration h = tt
-name-not-script property h = tt
-name-not-script valued h = h
-name-not-script script h = h
-name-not-script nothing h = tt
+name-not-script s h = by-sort (λ s. eqb 0 (sortRank s)) (λ s. not (eqb 6 (sortRank s)) && not (eqb 5 (sortRank s))) tt s h
 
 cond-then : (x a b : Bool) → T x → T a → T (cond x a b)
 cond-then true a b h k = k

@@ -17,8 +17,8 @@ use Rattle.grammar.specs.Layout.{tok, names, varOf, kid, firstStanding, attr, 
 use Rattle.grammar.specs.Derives.{token, loOf, Derives, Follows, derive, d-end, d-stop, d-tok, d-kid}
 use Rattle.kinds.specs.Levels.{member, callMember, primary, isC, isTarget, fits}
 use Rattle.grammar.specs.Productions.{Expression, MemberExpression, CallOrMemberExpression, IdentifierName, SimpleTarget, Units, Productions, Lists}
-use Rattle.grammar.proofs.Tests.{and-l, and-r, and-i, imp, mp, is-false}
-use Rattle.grammar.proofs.Laws.{all, standings, at-standing}
+use Rattle.grammar.proofs.Tests.{all, and-l, and-r, and-i, imp, mp, is-false}
+use Rattle.grammar.proofs.Laws.{standings, at-standing}
 use Rattle.grammar.proofs.Fills.{derives-good}
 
 -- What fits the slot p fits q.

@@ -26,12 +26,13 @@ use Rattle.kinds.specs.declared.level.Slot.{Slot}
 use Rattle.kinds.specs.declared.level.Slot.the-variants as slot
 use Rattle.kinds.specs.Levels.{Standing, binaryStanding, fits}
 use Rattle.grammar.specs.Codes.{openParen, closeParen, openBracket, openBrace, closeBrace, comma, colon, arrow, wordFunction, wordElse, unaryCode, binaryCode}
-use Rattle.grammar.specs.Site.{Sort, expression, statement, block, declaration, property, valued, script, nothing, sortRank, Begin, brace, function, other, Attr, isSort, isExpression, isStatement, isOther, isBrace, Site, at, body, blockOnly, prop, plainName, inHead}
+use Rattle.grammar.specs.Site.{Sort, expression, block, declaration, property, valued, sortRank, Begin, brace, function, other, Attr, isSort, isExpression, isStatement, isOther, isBrace, Site, at, body, blockOnly, prop, plainName, inHead}
 use Rattle.grammar.specs.Tree.{head, headOf, Tree, Forest, node, nil, _▸_}
 use Rattle.grammar.specs.Layout.{Lay, end, tok, kid, commas, listed, layout, inOperator, attr, attrs, anyOpen, butLast}
 use Rattle.kinds.specs.Levels.{leftSlot, rightSlot}
 use Rattle.grammar.specs.Derives.{token, loOf}
 use Rattle.grammar.specs.Parser.{Goal, ex, stm, blk, dec, prp, nam, scr, same, free, fin, eat, sub, peek, starts, skip, atStop, prefix, frameDo, After, operates, after, next, fSeq, fAsg, fCnd, fPost, fCall, fEnd, frame, binaryFrame, takes, settle, arrowDo, parenDo}
+use Rattle.grammar.proofs.Sorts.{by-sort}
 use Rattle.grammar.proofs.Tests.{and-l, and-r, and-i, is-true, is-false, imp, mp}
 use Rattle.grammar.proofs.Laws.{called, guard, closes, closes-ends, guard-real, guard-first, isNever, isComma, edge-unary, edge-assignment, edge-conditional, edge-update, edge-binary, edge-sequence, edge-name, end-closes, comma-closes, target-call}
 use Rattle.grammar.proofs.Fills.{Fills, f-end, f-tok, f-kid}
@@ -67,34 +68,13 @@ pub parses-block : {u : Tree} {s : Site} {ks js : List Token} → Claim s u ks j
 parses-block {u} {s} {ks} {js} a e = record { less = a .less (block-not-script (attr u .sort) e); done = λ n hn. a .to .via true blk e tt tt .on 1 (u, js) (stops true blk u js refl) n (omega arith) }
   where
     block-not-script : (s : Sort) → T (eqb 2 (sortRank s)) → T (not (eqb 6 (sortRank s)))
-    block-not-script expression h = tt
-    block-not-script statement h = tt
-    block-not-script block h = tt
-    block-not-script declaration h = tt
-    block-not-script property h = tt
-    block-not-script valued h = tt
-    block-not-script script h = h
-    block-not-script nothing h = tt
+    block-not-script s h = by-sort (λ s. eqb 2 (sortRank s)) (λ s. not (eqb 6 (sortRank s))) tt s h
 
 prop-not-script : (s : Sort) → T (eqb 4 (sortRank s)) → T (not (eqb 6 (sortRank s)))
-prop-not-script expression h = tt
-prop-not-script statement h = tt
-prop-not-script block h = tt
-prop-not-script declaration h = tt
-prop-not-script property h = tt
-prop-not-script valued h = tt
-prop-not-script script h = h
-prop-not-script nothing h = tt
+prop-not-script s h = by-sort (λ s. eqb 4 (sortRank s)) (λ s. not (eqb 6 (sortRank s))) tt s h
 
 prop-not-others : (s : Sort) → T (eqb 4 (sortRank s)) → T (not (eqb 0 (sortRank s)) && not (eqb 1 (sortRank s) || (eqb 2 (sortRank s) || eqb 3 (sortRank s))))
-prop-not-others expression h = h
-prop-not-others statement h = h
-prop-not-others block h = h
-prop-not-others declaration h = h
-prop-not-others property h = tt
-prop-not-others valued h = tt
-prop-not-others script h = tt
-prop-not-others nothing h = tt
+prop-not-others s h = by-sort (λ s. eqb 4 (sortRank s)) (λ s. not (eqb 0 (sortRank s)) && not (eqb 1 (sortRank s) || (eqb 2 (sortRank s) || eqb 3 (sortRank s)))) tt s h
 
 parses-prop : {u : Tree} {ks js : List Token} → Claim prop u ks js → T (closes true slot.Assignment (frame (next js))) → Parses true prp u ks js
 parses-prop {u} {ks} {js} a g = record { less = a .less (prop-not-script (attr u .sort) (a .fit)); done = λ n hn. a .to .via true prp (a .fit) tt g .on 1 (u, js) (stops true prp u js refl) n (omega arith) }
@@ -309,24 +289,10 @@ block-first {u = u} {ks = ks} a e =
     mp (isSort block (attr u)) _ (and-l (imp (isSort block (attr u)) (starts openBrace ks)) _ (and-r (not (starts wordElse ks)) _ (and-r (not (atStop ks)) _ (cond-t (isStatement (attr u)) _ _ st (cond-f (isExpression (attr u)) _ _ (block-not-expression (attr u .sort) e) (a .firstly)))))) e
   where
     block-statement : (s : Sort) → T (eqb 2 (sortRank s)) → T (eqb 1 (sortRank s) || (eqb 2 (sortRank s) || eqb 3 (sortRank s)))
-    block-statement expression h = h
-    block-statement statement h = tt
-    block-statement block h = tt
-    block-statement declaration h = tt
-    block-statement property h = h
-    block-statement valued h = h
-    block-statement script h = h
-    block-statement nothing h = h
+    block-statement s h = by-sort (λ s. eqb 2 (sortRank s)) (λ s. eqb 1 (sortRank s) || (eqb 2 (sortRank s) || eqb 3 (sortRank s))) tt s h
 
     block-not-expression : (s : Sort) → T (eqb 2 (sortRank s)) → T (not (eqb 0 (sortRank s)))
-    block-not-expression expression h = h
-    block-not-expression statement h = tt
-    block-not-expression block h = tt
-    block-not-expression declaration h = tt
-    block-not-expression property h = tt
-    block-not-expression valued h = tt
-    block-not-expression script h = tt
-    block-not-expression nothing h = tt
+    block-not-expression s h = by-sort (λ s. eqb 2 (sortRank s)) (λ s. not (eqb 0 (sortRank s))) tt s h
 
 body-run : {b : Bool} {u : Tree} {ks r : List Token} {h0 : ℕ} → Claim body u ks r → T (b || not (attr u .bareIn)) → T (closes b slot.Assignment (frame (next r))) → Runs b (peek openBrace (sub free blk (fin form.Arrow)) (sub same (ex slot.Assignment) (fin form.Arrow))) (u ▸ nil) ks r h0 (headOf u .hi) form.Arrow
 body-run {b} {u} {ks} {r} {h0} a nb g = go (isSort block (attr u)) refl (a .fit)

@@ -1,4 +1,5 @@
 pub mod Tests
+pub mod Sorts
 pub mod Fills
 pub mod Laws
 pub mod Steps

@@ -23,8 +23,8 @@ use Rattle.grammar.specs.Codes.{closeParen, equals}
 use Rattle.grammar.specs.Site.{valued, Attr, isSort, isExpression, Site, at, blockOnly, plainName, valuedName}
 use Rattle.grammar.specs.Tree.{Tree, Forest, nil, _▸_}
 use Rattle.grammar.specs.Layout.{Lay, end, tok, kid, commas, listed, layout, attrOf, attr, attrs, anyOpen, butLast, names}
-use Rattle.grammar.proofs.Tests.{and-l, and-r, imp, mp}
-use Rattle.grammar.proofs.Laws.{all, standings, at-standing}
+use Rattle.grammar.proofs.Tests.{all, and-l, and-r, imp, mp}
+use Rattle.grammar.proofs.Laws.{standings, at-standing}
 use Rattle.grammar.proofs.Fills.{Fills, f-end, f-tok, f-kid}
 use Rattle.grammar.proofs.Steps.{tight, Claim}
 

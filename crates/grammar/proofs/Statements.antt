@@ -17,6 +17,7 @@ use Rattle.grammar.specs.Tree.{head, headOf, Tree, Forest, node, nil, _▸_}
 use Rattle.grammar.specs.Layout.{end, tok, layout, attr, attrs, codeBegin}
 use Rattle.grammar.specs.Derives.{token, loOf}
 use Rattle.grammar.specs.Parser.{Goal, ex, stm, blk, dec, prp, nam, scr, free, shut, Do, fin, eat, sub, peek, stms, starts, opens, firstOpens, atStop, prefix, next, fIn, fEnd, frame, settle, inOr, forTest}
+use Rattle.grammar.proofs.Sorts.{by-sort}
 use Rattle.grammar.proofs.Tests.{and-l, and-r, and-i, is-true, is-false, imp, mp}
 use Rattle.grammar.proofs.Laws.{closes, closes-ends, end-closes, in-closes, in-closes-item}
 use Rattle.grammar.proofs.Fills.{Fills, f-end, f-tok, f-kid}
@@ -113,24 +114,10 @@ read-block s {us} {ks} {r} {h} (f-tok {ks = js} {l = l} {i = i} d) = record { vi
 
 -- The heads of For and ForIn.
 declaration-statement : (s : Sort) → T (eqb 3 (sortRank s)) → T (eqb 1 (sortRank s) || (eqb 2 (sortRank s) || eqb 3 (sortRank s)))
-declaration-statement expression h = h
-declaration-statement statement h = tt
-declaration-statement block h = tt
-declaration-statement declaration h = tt
-declaration-statement property h = h
-declaration-statement valued h = h
-declaration-statement script h = h
-declaration-statement nothing h = h
+declaration-statement s h = by-sort (λ s. eqb 3 (sortRank s)) (λ s. eqb 1 (sortRank s) || (eqb 2 (sortRank s) || eqb 3 (sortRank s))) tt s h
 
 declaration-not-script : (s : Sort) → T (eqb 3 (sortRank s)) → T (not (eqb 6 (sortRank s)))
-declaration-not-script expression h = tt
-declaration-not-script statement h = tt
-declaration-not-script block h = tt
-declaration-not-script declaration h = tt
-declaration-not-script property h = tt
-declaration-not-script valued h = tt
-declaration-not-script script h = h
-declaration-not-script nothing h = tt
+declaration-not-script s h = by-sort (λ s. eqb 3 (sortRank s)) (λ s. not (eqb 6 (sortRank s))) tt s h
 
 -- A Var begins with `var`.
 var-first : {s : Site} {u : Tree} {ks js : List Token} → Claim s u ks js → T (isSort declaration (attr u)) → T (starts wordVar ks)

@@ -16,11 +16,12 @@ use Rattle.kinds.specs.declared.form.Form.{Form}
 use Rattle.kinds.specs.declared.level.Slot.{Slot}
 use Rattle.kinds.specs.declared.level.Slot.the-variants as slot
 use Rattle.grammar.specs.Codes.{openParen, openBracket, openBrace, closeBrace, comma, equals, wordElse, wordVar}
-use Rattle.grammar.specs.Site.{Sort, expression, statement, block, declaration, property, valued, script, nothing, sortRank, Attr, Begin, other, isOther, isSort, isExpression, isStatement, Site, ok, inHead}
+use Rattle.grammar.specs.Site.{Sort, block, declaration, property, valued, script, sortRank, Attr, Begin, other, isOther, isSort, isExpression, isStatement, Site, ok, inHead}
 use Rattle.grammar.specs.Tree.{head, headOf, Tree, Forest, node, nil, _▸_}
 use Rattle.grammar.specs.Layout.{attr, codeBegin}
 use Rattle.grammar.specs.Derives.{token, loOf}
 use Rattle.grammar.specs.Parser.{Goal, ex, stm, blk, dec, prp, nam, scr, Mode, mode, free, Do, fin, eat, sub, peek, more, items, stms, operand, behind, starts, skip, firstOpens, atStop, prefix, frameDo, After, after, next, Frame, frame, takes, goesOn, settle, ran, parse, loop, perform}
+use Rattle.grammar.proofs.Sorts.{by-sort}
 use Rattle.grammar.proofs.Tests.{imp, and-i, is-true}
 use Rattle.grammar.proofs.Laws.{called, guard, ends, closes, ends-guard, ends-stop, closure}
 
@@ -218,14 +219,7 @@ begin-frame {s0} {u} {us} {c} {l} {i} {h} {ks} {js} {r} {f} {b} {p} {s} a ie cp 
 
 -- An expression is no script.
 pub not-script : (s : Sort) → T (eqb 0 (sortRank s)) → T (not (eqb 6 (sortRank s)))
-not-script expression h = tt
-not-script statement h = tt
-not-script block h = tt
-not-script declaration h = tt
-not-script property h = tt
-not-script valued h = tt
-not-script script h = h
-not-script nothing h = tt
+not-script s h = by-sort (λ s. eqb 0 (sortRank s)) (λ s. not (eqb 6 (sortRank s))) tt s h
 
 -- A child that is an expression.
 pub parses : {s : Site} {t : Tree} {ks r : List Token} → Claim s t ks r → (b : Bool) (p : Slot) → T (isExpression (attr t)) → T (called p) → T (fits p (attr t .standing)) → T (b || not (attr t .bareIn)) → T (ends b p (attr t .standing) (frame (next r))) → Parses b (ex p) t ks r
