@@ -11,12 +11,13 @@ use Rattle.kinds.specs.declared.form.Key.the-variants as key
 use Rattle.kinds.specs.declared.level.Slot.{Slot}
 use Rattle.kinds.specs.declared.level.Slot.the-variants as slot
 use Rattle.grammar.specs.Codes.{openParen, closeParen, openBracket, closeBracket, dot, equals}
-use Rattle.grammar.specs.Site.{ok, isExpression, Sort, expression, statement, block, declaration, property, script, nothing, sortRank, Attr, isSort, valued, at, init, varInit, varIn, plainName, valuedName}
+use Rattle.grammar.specs.Site.{ok, isExpression, Sort, declaration, property, script, sortRank, Attr, isSort, valued, at, init, varInit, varIn, plainName, valuedName}
 use Rattle.grammar.specs.Tree.{head, headOf, Tree, Forest, node, nil, _▸_}
 use Rattle.grammar.specs.Layout.{tok, names, varOf, kid, firstStanding, attr, attrs, attrOf}
 use Rattle.grammar.specs.Derives.{token, loOf, Derives, Follows, derive, d-end, d-stop, d-tok, d-kid}
 use Rattle.kinds.specs.Levels.{member, callMember, primary, isC, isTarget, fits}
 use Rattle.grammar.specs.Productions.{Expression, MemberExpression, CallOrMemberExpression, IdentifierName, SimpleTarget, Units, Productions, Lists}
+use Rattle.grammar.proofs.Sorts.{by-sort}
 use Rattle.grammar.proofs.Tests.{all, and-l, and-r, and-i, imp, mp, is-false}
 use Rattle.grammar.proofs.Laws.{standings, at-standing}
 use Rattle.grammar.proofs.Fills.{derives-good}
@@ -90,14 +91,7 @@ paren-target cs h = go (isTarget (firstStanding cs)) h
 
 -- An expression is no Var.
 not-declaration : (s : Sort) → T (eqb 0 (sortRank s)) → eqb 3 (sortRank s) ≡ false
-not-declaration expression h = refl
-not-declaration statement h = refl
-not-declaration block h = refl
-not-declaration declaration h = absurd h
-not-declaration property h = refl
-not-declaration valued h = refl
-not-declaration script h = refl
-not-declaration nothing h = refl
+not-declaration s h = is-false _ (by-sort (λ s. eqb 0 (sortRank s)) (λ s. not (eqb 3 (sortRank s))) tt s h)
 
 is-true : (x : Bool) → T x → x ≡ true
 is-true true h = refl
@@ -125,14 +119,7 @@ from-var-in {t} {ks} {r} d =
 
 -- An expression is no Name with a value.
 not-valued : (s : Sort) → T (eqb 0 (sortRank s)) → eqb 5 (sortRank s) ≡ false
-not-valued expression h = refl
-not-valued statement h = refl
-not-valued block h = refl
-not-valued declaration h = refl
-not-valued property h = refl
-not-valued valued h = absurd h
-not-valued script h = refl
-not-valued nothing h = refl
+not-valued s h = is-false _ (by-sort (λ s. eqb 0 (sortRank s)) (λ s. not (eqb 5 (sortRank s))) tt s h)
 
 from-name : {u : Tree} {us : Forest} {ks js r : List Token} {h0 h : ℕ} → Derives plainName u ks js → Follows false (names (attrs us) false) us js r (headOf u .hi) h → Follows false (varOf (attrs (u ▸ us))) (u ▸ us) ks r h0 h
 unfolding attrs
