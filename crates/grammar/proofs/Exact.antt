@@ -22,7 +22,7 @@ use Rattle.grammar.specs.Derives.{loOf, Derives, Follows, derive}
 use Rattle.grammar.specs.Shape.{codes}
 use Rattle.grammar.specs.Parser.{Res, scr, stms, fin, atStop, starts, parse, loop}
 use Rattle.grammar.specs.Read.{sameCodes, empty, entire, checked, read}
-use Rattle.grammar.specs.Claim.{Unambiguous, Read-derives, Derived-good, Good-derives}
+use Rattle.grammar.specs.Claim.{Unambiguous, Read-derives, Derived-good, Good-derives, Part-good, Part-derives}
 use Rattle.grammar.proofs.Tests.{and-l, and-r, and-i, is-true}
 use Rattle.grammar.proofs.Fills.{Fills, f-end, fold-all, derives-good}
 use Rattle.grammar.proofs.Shapes.{good-reads}
@@ -126,6 +126,12 @@ accepted ts (some x) t h =
     let e2 : T (ok root (attr (x .0)) && (good (x .0) && sameCodes (codes ts) (wr false (x .0) []))) = and-r (empty (x .1)) _ e in
     let e3 : T (good (x .0) && sameCodes (codes ts) (wr false (x .0) [])) = and-r (ok root (attr (x .0))) _ e2 in
     subst (λ (t : Tree). T (ok root (attr t)) × Good t × (wr false t [] ≡ codes ts)) q (and-l (ok root (attr (x .0))) _ e2, and-l (good (x .0)) _ e3, sym (codes-path (codes ts) (wr false (x .0) []) (and-r (good (x .0)) _ e3)))
+
+pub part-good : Part-good
+part-good s t ks r d = derives-good d
+
+pub part-derives : Part-derives
+part-derives s t o g ks k e = good-reads t g s o ks k e
 
 pub derived-good : Derived-good
 derived-good ts t d = let (o, g, w) = derives-good d in (o, g, sym w)

@@ -3,6 +3,7 @@
 --   Unambiguous       no token list has two readings
 --   Read-derives      the reader accepts exactly the token lists that have a reading, and gives it
 --   Derived-good      what is derived is a good script, and writing it gives the codes of its tokens back
+--   Part-good, Part-derives    the same two for every part of a script, at its site, with what follows it
 --   Parts-placed      the place of every derived part runs from its first token's lo to its last token's hi
 --   Scripts-placed    and so for a script; one with no tokens has the place 0 to 0
 --   Good-derives      tokens that are spelled as a good script is written have a reading, with the script's shape
@@ -17,7 +18,8 @@ use mathlib.Core.Option.{some}
 use lib.Dec.{T}
 use lib.ListN.{length}
 use Rattle.token.specs.declared.Token.{Token}
-use Rattle.grammar.specs.Site.{Site, at, start, body, blockOnly, stmt, closed, init, varInit, varIn, prop, plainName, valuedName, keyName, root, ok}
+use Rattle.token.specs.declared.Code.{Code}
+use Rattle.grammar.specs.Site.{Site, at, start, body, blockOnly, stmt, closed, init, varInit, varIn, prop, plainName, valuedName, keyName, root, ok, inHead}
 use Rattle.grammar.specs.Tree.{headOf, Tree}
 use Rattle.grammar.specs.Layout.{attr, Good, wr}
 use Rattle.grammar.specs.Derives.{loOf, Derives}
@@ -39,6 +41,12 @@ Derived-good = (ts : List Token) (t : Tree) → Reads ts t → T (ok root (attr 
 
 abbrev pub Good-derives : Type 0
 Good-derives = (ts : List Token) (t : Tree) → T (ok root (attr t)) → Good t → wr false t [] ≡ codes ts → (u : Tree) × (shape u ≡ shape t) × Reads ts u
+
+abbrev pub Part-good : Type 0
+Part-good = (s : Site) (t : Tree) (ks r : List Token) → Derives s t ks r → T (ok s (attr t)) × Good t × (codes ks ≡ wr (inHead s) t (codes r))
+
+abbrev pub Part-derives : Type 0
+Part-derives = (s : Site) (t : Tree) → T (ok s (attr t)) → Good t → (ks : List Token) (k : List Code) → codes ks ≡ wr (inHead s) t k → (u : Tree) × (r : List Token) × (shape u ≡ shape t) × (codes r ≡ k) × Derives s u ks r
 
 -- Every site but that of a whole script.
 abbrev pub isPart : Site → Bool

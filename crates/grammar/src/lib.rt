@@ -3,7 +3,7 @@
 ghost use Rattle.grammar.specs.Rewriting.{Core-law, Good-full};
 ghost use Rattle.grammar.specs.Productions.{Units, Productions, Lists};
 ghost use Rattle.grammar.specs.Examples.{Examples-hold, Cores-hold};
-ghost use Rattle.grammar.specs.Claim.{Unambiguous, Read-derives, Derived-good, Good-derives, Parts-placed, Scripts-placed};
+ghost use Rattle.grammar.specs.Claim.{Unambiguous, Read-derives, Derived-good, Good-derives, Part-good, Part-derives, Parts-placed, Scripts-placed};
 
 /// No token list has two readings.
 pub fn unambiguous() -> u8
@@ -68,6 +68,14 @@ pub fn productions_hold() -> u8
 pub fn places_law() -> u8
     ensures parts { λ _. ⌜ Parts-placed ⌝ }
     ensures scripts { λ _. ⌜ Scripts-placed ⌝ }
+{
+    0
+}
+
+/// Both hold of every part of a script, at the site where it stands and with what follows it.
+pub fn parts_are_good() -> u8
+    ensures good { λ _. ⌜ Part-good ⌝ }
+    ensures derives { λ _. ⌜ Part-derives ⌝ }
 {
     0
 }
