@@ -53,7 +53,7 @@ no-body false true z e g h = subst T g tt
 no-body false false z e g h = h
 
 -- A free record and a hole stand nowhere.
-nowhere : (s : Site) (a : Attr) → a .sort ≡ nothing → T (ok s a) → ⊥
+pub nowhere : (s : Site) (a : Attr) → a .sort ≡ nothing → T (ok s a) → ⊥
 nowhere (at p) a e h = subst T (ap (λ (x : Sort). eqb 0 (sortRank x)) e) (and-l (isExpression a) _ h)
 nowhere start a e h = subst T (ap (λ (x : Sort). eqb 0 (sortRank x)) e) (and-l (isExpression a) _ h)
 nowhere body a e h = no-body (isSort block a) (isExpression a) _ (ap (λ (x : Sort). eqb 2 (sortRank x)) e) (ap (λ (x : Sort). eqb 0 (sortRank x)) e) h

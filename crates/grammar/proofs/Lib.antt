@@ -20,3 +20,4 @@ pub mod CoreGood
 pub mod Document
 pub mod Shut
 pub mod Places
+pub mod Sizes

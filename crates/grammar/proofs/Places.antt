@@ -32,7 +32,7 @@ use Rattle.grammar.proofs.Steps.{Claim}
 use Rattle.grammar.proofs.Every.{claim}
 
 -- No layout has a script as a child.
-abbrev rootless : Lay → Bool
+abbrev pub rootless : Lay → Bool
 rootless end = true
 rootless stop = true
 rootless (tok c ls) = rootless ls
@@ -76,7 +76,7 @@ part-left : (cs : List Attr) → T (isPart (leftSite cs))
 part-left [] = tt
 part-left (c ∷ cs) = part-cond (isSort declaration c) varIn (at slot.Target) tt tt
 
-all-parts : (f : Form) (cs : List Attr) → T (rootless (layout f cs))
+pub all-parts : (f : Form) (cs : List Attr) → T (rootless (layout f cs))
 all-parts form.Free cs = tt
 all-parts (form.Name b) cs = tt
 all-parts form.Num cs = tt

@@ -6,11 +6,12 @@
 --   Part-good, Part-derives    the same two for every part of a script, at its site, with what follows it
 --   Parts-placed      the place of every derived part runs from its first token's lo to its last token's hi
 --   Scripts-placed    and so for a script; one with no tokens has the place 0 to 0
+--   Sizes-bounded     a reading has at most one record more than tokens, and nests at most as deep as it has records
 --   Good-derives      tokens that are spelled as a good script is written have a reading, with the script's shape
 --
 -- Assumes nothing.
 use mathlib.Core.Path.{_≡_}
-use Prim.Native.Nat.{ℕ, _<_}
+use Prim.Native.Nat.{ℕ, _+_, _≤_, _<_}
 use mathlib.Core.List.{List, [], _∷_, _++_}
 use mathlib.Core.Bool.{Bool, true, false}
 use mathlib.Core.Logic.{_↔_}
@@ -20,7 +21,7 @@ use lib.ListN.{length}
 use Rattle.token.specs.declared.Token.{Token}
 use Rattle.token.specs.declared.Code.{Code}
 use Rattle.grammar.specs.Site.{Site, at, start, body, blockOnly, stmt, closed, init, varInit, varIn, prop, plainName, valuedName, keyName, root, ok, inHead}
-use Rattle.grammar.specs.Tree.{headOf, Tree}
+use Rattle.grammar.specs.Tree.{headOf, Tree, size, depth}
 use Rattle.grammar.specs.Layout.{attr, Good, wr}
 use Rattle.grammar.specs.Derives.{loOf, Derives}
 use Rattle.grammar.specs.Shape.{codes, shape}
@@ -76,3 +77,6 @@ Parts-placed = (s : Site) (t : Tree) (ks r : List Token) → T (isPart s) → De
 
 abbrev pub Scripts-placed : Type 0
 Scripts-placed = (ts : List Token) (t : Tree) → Reads ts t → (headOf t .lo ≡ loOf ts) × (headOf t .hi ≡ hiOf ts)
+
+abbrev pub Sizes-bounded : Type 0
+Sizes-bounded = (ts : List Token) (t : Tree) → Reads ts t → (size t ≤ length ts + 1) × (depth t ≤ size t)

@@ -3,7 +3,7 @@
 ghost use Rattle.grammar.specs.Rewriting.{Core-law, Good-full};
 ghost use Rattle.grammar.specs.Productions.{Units, Productions, Lists};
 ghost use Rattle.grammar.specs.Examples.{Examples-hold, Cores-hold};
-ghost use Rattle.grammar.specs.Claim.{Unambiguous, Read-derives, Derived-good, Good-derives, Part-good, Part-derives, Parts-placed, Scripts-placed};
+ghost use Rattle.grammar.specs.Claim.{Unambiguous, Read-derives, Derived-good, Good-derives, Part-good, Part-derives, Parts-placed, Scripts-placed, Sizes-bounded};
 
 /// No token list has two readings.
 pub fn unambiguous() -> u8
@@ -76,6 +76,14 @@ pub fn places_law() -> u8
 pub fn parts_are_good() -> u8
     ensures good { λ _. ⌜ Part-good ⌝ }
     ensures derives { λ _. ⌜ Part-derives ⌝ }
+{
+    0
+}
+
+/// A reading has at most one record more than tokens, and nests at most as deep as it has records: fewer than 512 tokens never nest
+/// deeper than 512.
+pub fn sizes_law() -> u8
+    ensures { λ _. ⌜ Sizes-bounded ⌝ }
 {
     0
 }
