@@ -157,9 +157,6 @@ abbrev pub leftSite : List Attr → Site
 leftSite [] = at slot.Target
 leftSite (c ∷ cs) = cond (isSort declaration c) varIn (at slot.Target)
 
-abbrev pub nameOf : Binding → Code
-nameOf b = code.Name
-
 abbrev pub layout : Form → List Attr → Lay
 layout form.Free cs = end
 layout (form.Name b) cs = tok code.Name end
