@@ -1,53 +1,29 @@
 -- What every form writes is balanced in `(` and `)`; so what stands behind a bracket that was opened is found by counting.
-use mathlib.Core.Path.{_≡_, refl, sym, _∙_, ap, subst}
+use mathlib.Core.Path.{_≡_, refl, _∙_, ap}
 use mathlib.Core.List.{List, [], _∷_}
 use mathlib.Core.Bool.{Bool, true, false, cond}
 use mathlib.Core.Option.{Option, none, some, Option·none-ne-some}
 use Prim.Native.Nat.{ℕ, zero, suc}
-use lib.Dec.{T}
 use Rattle.token.specs.Same.{sameCode}
 use Rattle.token.specs.declared.Token.{Token}
-use Rattle.token.specs.declared.Code.{Code}
-use Rattle.token.specs.declared.Code.the-variants as code
 use Rattle.token.specs.declared.word.Word.{Word}
-use Rattle.token.specs.declared.word.Word.the-variants as word
-use Rattle.token.specs.declared.punctuator.Punctuator.{Punctuator}
-use Rattle.token.specs.declared.punctuator.Punctuator.the-variants as punctuator
-use Rattle.token.specs.declared.operator.Operator.{Operator}
-use Rattle.token.specs.declared.operator.Operator.the-variants as operator
-use Rattle.token.specs.declared.operator.AssignOperator.{AssignOperator}
-use Rattle.token.specs.declared.operator.AssignOperator.the-variants as assign
-use Rattle.kinds.specs.declared.operator.UnaryOperator.{UnaryOperator}
 use Rattle.kinds.specs.declared.operator.UnaryOperator.the-variants as unary
-use Rattle.kinds.specs.declared.operator.UpdateOperator.{UpdateOperator}
 use Rattle.kinds.specs.declared.operator.UpdateOperator.the-variants as update
-use Rattle.kinds.specs.declared.operator.BinaryOperator.{BinaryOperator}
 use Rattle.kinds.specs.declared.operator.BinaryOperator.the-variants as binary
-use Rattle.kinds.specs.declared.form.Constant.{Constant}
 use Rattle.kinds.specs.declared.form.Constant.the-variants as constant
 use Rattle.kinds.specs.declared.form.Form.{Form}
 use Rattle.kinds.specs.declared.form.Form.the-variants as form
-use Rattle.kinds.specs.declared.form.Binding.{Binding}
-use Rattle.kinds.specs.declared.form.Binding.the-variants as binding
 use Rattle.kinds.specs.declared.form.Key.{Key}
 use Rattle.kinds.specs.declared.form.Key.the-variants as key
-use Rattle.kinds.specs.declared.form.Own.{Own}
 use Rattle.kinds.specs.declared.form.Own.the-variants as own
-use Rattle.kinds.specs.declared.form.Arguments.{Arguments}
 use Rattle.kinds.specs.declared.form.Arguments.the-variants as arguments
-use Rattle.kinds.specs.declared.form.Link.{Link}
 use Rattle.kinds.specs.declared.form.Link.the-variants as link
-use Rattle.kinds.specs.declared.form.Entry.{Entry}
 use Rattle.kinds.specs.declared.form.Entry.the-variants as entry
-use Rattle.kinds.specs.declared.operator.Side.{Side}
 use Rattle.kinds.specs.declared.operator.Side.the-variants as side
-use Rattle.kinds.specs.declared.level.Slot.{Slot}
-use Rattle.kinds.specs.declared.level.Slot.the-variants as slot
 use Rattle.grammar.specs.Codes.{openParen, closeParen}
 use Rattle.grammar.specs.Site.{Attr, Site, isSort, valued}
-use Rattle.grammar.specs.Tree.{Tree, Forest, node, nil, _▸_}
-use Rattle.grammar.specs.Layout.{Lay, end, stop, tok, kid, layout, commas, listed, run, names, varOf, rest, butLast, parameters, argumentsOf}
-use Rattle.grammar.specs.Derives.{token}
+use Rattle.grammar.specs.Tree.{Forest}
+use Rattle.grammar.specs.Layout.{Lay, end, stop, tok, kid, layout, commas, listed, run, names, varOf, rest, butLast}
 use Rattle.grammar.specs.Parser.{skip, down}
 use Rattle.grammar.proofs.Fills.{Fills, f-end, f-stop, f-tok, f-kid}
 use Rattle.grammar.proofs.Steps.{Claim}

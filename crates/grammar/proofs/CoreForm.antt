@@ -5,9 +5,8 @@ use mathlib.Core.Logic.{_⊎_, inl, inr}
 use Prim.Native.Nat.{ℕ, zero, suc, _+_, _≤_, _<_}
 use native.Mathlib.Omega.{arith}
 use lib.Dec.{T}
-use Rattle.kinds.specs.declared.form.Form.{Form}
 use Rattle.grammar.specs.Tree.{Head, head, Tree, Forest, node, nil, _▸_, _⊕_, size, sizes}
-use Rattle.grammar.specs.Core.{Link, conjoins, disjoins, coalesces, Role, rPar, rSeq, rVoid, rIdle, rIf, rBlock, rRest, rChain, role, formRole, isBlock, sameLink, chains, counts, clear, clears, left, effs, effss, lasts, flat, items, operands, opened, openeds, firstBody, join, settled, settleds, core}
+use Rattle.grammar.specs.Core.{Link, conjoins, disjoins, coalesces, Role, rPar, rSeq, rVoid, rIdle, rIf, rBlock, rRest, rChain, role, isBlock, sameLink, chains, counts, clear, clears, effs, effss, lasts, flat, items, operands, opened, openeds, firstBody, join, settled, settleds}
 use Rattle.grammar.specs.Rewriting.{some?, Redex, joined-in, gives-way, goes, Step, pair-out, chain-in, settles, unblocks, inside, Comes, done, more, full, Full, Fulls, Core-law}
 use Rattle.grammar.proofs.CoreParts.{⊕-nil, ⊕-assoc, cores-⊕, flat-cores-⊕, effs-void, effs-seq, effs-idle, lasts-seq}
 

@@ -1,34 +1,12 @@
 -- A good tree has no empty sequence, so it has a core form that its rules come to.
-use mathlib.Core.List.{List, [], _∷_}
-use mathlib.Core.Bool.{Bool, true, false, _&&_}
+use mathlib.Core.List.{[]}
 use lib.Dec.{T}
-use Rattle.kinds.specs.declared.operator.UnaryOperator.{UnaryOperator}
-use Rattle.kinds.specs.declared.operator.UnaryOperator.the-variants as unary
-use Rattle.kinds.specs.declared.operator.UpdateOperator.{UpdateOperator}
-use Rattle.kinds.specs.declared.operator.UpdateOperator.the-variants as update
 use Rattle.kinds.specs.declared.form.Form.{Form}
 use Rattle.kinds.specs.declared.form.Form.the-variants as form
-use Rattle.kinds.specs.declared.form.Binding.{Binding}
-use Rattle.kinds.specs.declared.form.Binding.the-variants as binding
-use Rattle.kinds.specs.declared.form.Key.{Key}
-use Rattle.kinds.specs.declared.form.Key.the-variants as key
-use Rattle.kinds.specs.declared.form.Own.{Own}
-use Rattle.kinds.specs.declared.form.Own.the-variants as own
-use Rattle.kinds.specs.declared.form.Arguments.{Arguments}
-use Rattle.kinds.specs.declared.form.Arguments.the-variants as arguments
-use Rattle.kinds.specs.declared.form.Link.{Link}
-use Rattle.kinds.specs.declared.form.Link.the-variants as link
-use Rattle.kinds.specs.declared.form.Entry.{Entry}
-use Rattle.kinds.specs.declared.form.Entry.the-variants as entry
-use Rattle.kinds.specs.declared.operator.Side.{Side}
 use Rattle.kinds.specs.declared.operator.Side.the-variants as side
-use Rattle.kinds.specs.declared.operator.BinaryOperator.{BinaryOperator}
-use Rattle.kinds.specs.declared.operator.BinaryOperator.the-variants as binary
-use Rattle.kinds.specs.declared.level.Slot.{Slot}
-use Rattle.kinds.specs.declared.level.Slot.the-variants as slot
-use Rattle.grammar.specs.Tree.{Head, Tree, Forest, node, nil, _▸_}
-use Rattle.grammar.specs.Layout.{layout, fitKids, attr, attrs, good, goods, Good}
-use Rattle.grammar.specs.Core.{Role, role, formRole}
+use Rattle.grammar.specs.Tree.{Forest, node, nil, _▸_}
+use Rattle.grammar.specs.Layout.{layout, fitKids, attrs, good, goods}
+use Rattle.grammar.specs.Core.{formRole}
 use Rattle.grammar.specs.Rewriting.{full, Full, Fulls, Good-full}
 use Rattle.grammar.proofs.Tests.{and-l, and-r}
 use Rattle.grammar.proofs.CoreForm.{any-full}

@@ -1,9 +1,9 @@
 -- The laws of the core form's parts.
-use mathlib.Core.Path.{_≡_, refl, sym, _∙_, ap, ap₂, subst}
-use mathlib.Core.Bool.{Bool, true, false, cond}
+use mathlib.Core.Path.{_≡_, refl, sym, _∙_, ap, ap₂}
+use mathlib.Core.Bool.{cond}
 use lib.Dec.{T}
 use Rattle.grammar.specs.Tree.{Head, Tree, Forest, node, nil, _▸_, _⊕_}
-use Rattle.grammar.specs.Core.{Link, Role, rPar, rSeq, rVoid, rIdle, rIf, rBlock, rRest, rChain, role, isSeq, left, effs, effss, lasts, flat, items, operands, join, settled, settleds}
+use Rattle.grammar.specs.Core.{Role, rPar, rSeq, rVoid, rIdle, rIf, rBlock, rRest, rChain, role, isSeq, left, effs, effss, lasts, flat, join, settled, settleds}
 use Rattle.grammar.specs.Rewriting.{some?}
 
 pub ⊕-nil : (us : Forest) → us ⊕ nil ≡ us

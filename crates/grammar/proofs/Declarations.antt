@@ -1,84 +1,33 @@
 -- How a Var is read: Names, some with values, up to its `;` or, in a head, to what follows.
-use mathlib.Core.Path.{_≡_, refl, sym, _∙_, ap, subst}
-use mathlib.Core.List.{List, [], _∷_}
+use mathlib.Core.Path.{_≡_, refl, sym, subst}
+use mathlib.Core.List.{List, _∷_}
 use mathlib.Core.Bool.{Bool, true, false, cond, not, _&&_, _||_}
-use Prim.Native.Nat.{ℕ, zero, suc, _+_, _*_, _≤_, _<_}
+use Prim.Native.Nat.{ℕ}
 use native.Mathlib.Omega.{arith}
 use lib.Dec.{T, eqb}
-use lib.ListN.{length}
-use Rattle.token.specs.Same.{sameCode}
 use Rattle.token.specs.declared.Token.{Token}
-use Rattle.token.specs.declared.Code.{Code}
-use Rattle.token.specs.declared.Code.the-variants as code
-use Rattle.token.specs.declared.word.Word.{Word}
-use Rattle.token.specs.declared.word.Word.the-variants as word
-use Rattle.token.specs.declared.punctuator.Punctuator.{Punctuator}
-use Rattle.token.specs.declared.punctuator.Punctuator.the-variants as punctuator
-use Rattle.token.specs.declared.operator.Operator.{Operator}
-use Rattle.token.specs.declared.operator.Operator.the-variants as operator
-use Rattle.token.specs.declared.operator.AssignOperator.{AssignOperator}
-use Rattle.token.specs.declared.operator.AssignOperator.the-variants as assign
-use Rattle.kinds.specs.declared.operator.UnaryOperator.{UnaryOperator}
-use Rattle.kinds.specs.declared.operator.UnaryOperator.the-variants as unaryOp
-use Rattle.kinds.specs.declared.operator.UpdateOperator.{UpdateOperator}
-use Rattle.kinds.specs.declared.operator.UpdateOperator.the-variants as updateOp
-use Rattle.kinds.specs.declared.operator.BinaryOperator.{BinaryOperator}
-use Rattle.kinds.specs.declared.operator.BinaryOperator.the-variants as binary
-use Rattle.kinds.specs.declared.form.Constant.{Constant}
-use Rattle.kinds.specs.declared.form.Constant.the-variants as constant
-use Rattle.kinds.specs.declared.form.Form.{Form}
 use Rattle.kinds.specs.declared.form.Form.the-variants as form
-use Rattle.kinds.specs.declared.form.Binding.{Binding}
-use Rattle.kinds.specs.declared.form.Binding.the-variants as binding
-use Rattle.kinds.specs.declared.form.Key.{Key}
-use Rattle.kinds.specs.declared.form.Key.the-variants as key
-use Rattle.kinds.specs.declared.form.Own.{Own}
-use Rattle.kinds.specs.declared.form.Own.the-variants as own
-use Rattle.kinds.specs.declared.form.Arguments.{Arguments}
-use Rattle.kinds.specs.declared.form.Arguments.the-variants as arguments
-use Rattle.kinds.specs.declared.form.Link.{Link}
-use Rattle.kinds.specs.declared.form.Link.the-variants as link
-use Rattle.kinds.specs.declared.form.Entry.{Entry}
-use Rattle.kinds.specs.declared.form.Entry.the-variants as entry
-use Rattle.kinds.specs.declared.operator.Side.{Side}
-use Rattle.kinds.specs.declared.operator.Side.the-variants as side
-use Rattle.kinds.specs.declared.level.Slot.{Slot}
 use Rattle.kinds.specs.declared.level.Slot.the-variants as slot
-use Rattle.kinds.specs.Levels.{Standing, sequence, assignment, conditional, unary, update, bareNew, optional, call, callMember, primary, member, isC, isO, isTarget, binaryStanding, fits}
-use Rattle.grammar.specs.Codes.{openParen, closeParen, openBracket, closeBracket, openBrace, closeBrace, semicolon, comma, dot, colon, question, questionDot, arrow, equals, wordThis, wordFunction, wordIn, wordNew, wordAwait, wordYield, wordVar, wordReturn, wordIf, wordElse, wordWhile, wordFor, constantCode, unaryCode, updateCode, binaryCode}
-use Rattle.grammar.specs.Site.{Sort, expression, statement, block, declaration, property, valued, script, nothing, sortRank, Begin, brace, Attr, isSort, isExpression, isStatement, isOther, isBrace, Site, at, start, body, blockOnly, stmt, closed, init, varInit, forLeft, varIn, prop, plainName, valuedName, keyName, root, ok, inHead}
-use Rattle.grammar.specs.Tree.{Head, head, headOf, Tree, Forest, node, nil, _▸_}
-use Rattle.grammar.specs.Layout.{Lay, end, stop, tok, kid, commas, listed, layout, inOperator, attrOf, attr, attrs, anyOpen, lastDangles, codeBegin, rest, butLast, names as namesOf, run as runOf, initSite, leftSite}
-use Rattle.kinds.specs.Levels.{leftSlot, rightSlot}
+use Rattle.grammar.specs.Codes.{semicolon, comma, equals, wordVar}
+use Rattle.grammar.specs.Site.{Sort, valued, script, sortRank, isSort, plainName, valuedName}
+use Rattle.grammar.specs.Tree.{head, Tree, Forest, node, nil, _▸_}
+use Rattle.grammar.specs.Layout.{tok, kid, layout, attr, attrs, anyOpen, names as namesOf}
 use Rattle.grammar.specs.Derives.{token, loOf}
-use Rattle.grammar.specs.Parser.{Goal, ex, stm, blk, dec, prp, nam, scr, Mode, same, free, shut, mode, Do, fin, eat, sub, peek, more, items, stms, operand, names, behind, starts, skip, opens, firstOpens, atStop, tailOf, prefix, frameDo, After, operates, separates, asks, ends, cannot, after, next, Frame, fSeq, fAsg, fCnd, fNul, fOr, fAnd, fBor, fXor, fBand, fEq, fRel, fIn, fShf, fAdd, fMul, fPow, fPost, fMem, fCall, fLink, fEnd, fNever, frame, binaryFrame, isFrame, firstSlot, grown, takes, settle, arrowDo, parenDo, inOr, forTest}
-use Rattle.grammar.proofs.Tests.{and-l, and-r, and-i, or-l, is-true, is-false, no-both, imp, mp}
-use Rattle.grammar.proofs.Laws.{called, guard, ends as endsAt, closes, closes-ends, guard-real, guard-first, isNever, isComma, isCall, isBoth, edge-unary, edge-assignment, edge-conditional, edge-bare-new, edge-update, edge-binary, edge-sequence, edge-name, no-list, callee, no-operand, end-closes, comma-closes, in-closes, in-closes-item, target-call, call-optional, chain-optional}
-use Rattle.grammar.proofs.Fills.{Fills, f-end, f-stop, f-tok, f-kid}
-use Rattle.grammar.proofs.Steps.{Claim, Through, To, Parses, Runs, goes, okAfter, tokenBegin, not-starts, no-start, stop as stops, parses, run-fin, run-eat, run-sub, run-as, run-if, run-else, begin-eat, begin-sub, begin-frame, peek-yes, peek-no, operand-some, operand-none, behind-none}
-use Rattle.grammar.proofs.Lists.{nor-l, nor-r, cond-t, cond-f, first-opens, first-not, at-expression, at-fits, parses-at, after-item, more-runs, items-run, list-runs, names-run, name-expression, name-fits, name-alone, parses-name, parses-statement, parses-last, parses-closed, statements-run}
+use Rattle.grammar.specs.Parser.{Goal, ex, stm, blk, dec, prp, nam, scr, same, Do, fin, eat, sub, names, behind, starts, next, frame}
+use Rattle.grammar.proofs.Sorts.{by-sort}
+use Rattle.grammar.proofs.Tests.{and-l, and-r, and-i, or-l, is-false}
+use Rattle.grammar.proofs.Laws.{closes, end-closes, comma-closes}
+use Rattle.grammar.proofs.Fills.{Fills, f-stop, f-tok, f-kid}
+use Rattle.grammar.proofs.Steps.{Claim, Through, To, Parses, Runs, goes, okAfter, stop as stops, run-fin, run-eat, run-sub, run-as, run-else, begin-eat, behind-none}
+use Rattle.grammar.proofs.Lists.{nor-l, nor-r, parses-at, name-expression}
 use Rattle.grammar.specs.Derives.{Stops}
 use Rattle.grammar.specs.Layout.{varOf}
 
 valued-not-script : (s : Sort) → T (eqb 5 (sortRank s)) → T (not (eqb 6 (sortRank s)))
-valued-not-script expression h = tt
-valued-not-script statement h = tt
-valued-not-script block h = tt
-valued-not-script declaration h = tt
-valued-not-script property h = tt
-valued-not-script valued h = tt
-valued-not-script script h = h
-valued-not-script nothing h = tt
+valued-not-script s h = by-sort (λ s. eqb 5 (sortRank s)) (λ s. not (eqb 6 (sortRank s))) tt s h
 
 name-not-script : (s : Sort) → T (eqb 0 (sortRank s)) → T (not (eqb 6 (sortRank s)) && not (eqb 5 (sortRank s)))
-name-not-script expression h = tt
-name-not-script statement h = tt
-name-not-script block h = tt
-name-not-script declaration h = tt
-name-not-script property h = tt
-name-not-script valued h = h
-name-not-script script h = h
-name-not-script nothing h = tt
+name-not-script s h = by-sort (λ s. eqb 0 (sortRank s)) (λ s. not (eqb 6 (sortRank s)) && not (eqb 5 (sortRank s))) tt s h
 
 cond-then : (x a b : Bool) → T x → T a → T (cond x a b)
 cond-then true a b h k = k

@@ -1,55 +1,25 @@
 -- The productions of the document hold: each is one line.
 use mathlib.Core.Path.{_≡_, refl, sym, subst}
 use Prim.Native.Nat.{ℕ}
-use mathlib.Core.Bool.{Bool, true, false, cond, not, _&&_}
-use mathlib.Core.List.{List, [], _∷_}
+use mathlib.Core.Bool.{Bool, true, false, cond, not}
+use mathlib.Core.List.{List, _∷_}
 use lib.Dec.{T, eqb}
 use Rattle.token.specs.declared.Token.{Token}
-use Rattle.token.specs.declared.Code.{Code}
-use Rattle.token.specs.declared.Code.the-variants as code
-use Rattle.token.specs.declared.word.Word.{Word}
-use Rattle.token.specs.declared.word.Word.the-variants as word
-use Rattle.token.specs.declared.punctuator.Punctuator.{Punctuator}
-use Rattle.token.specs.declared.punctuator.Punctuator.the-variants as punctuator
-use Rattle.token.specs.declared.operator.Operator.{Operator}
-use Rattle.token.specs.declared.operator.Operator.the-variants as operator
-use Rattle.token.specs.declared.operator.AssignOperator.{AssignOperator}
-use Rattle.token.specs.declared.operator.AssignOperator.the-variants as assign
-use Rattle.kinds.specs.declared.operator.UnaryOperator.{UnaryOperator}
-use Rattle.kinds.specs.declared.operator.UnaryOperator.the-variants as unary
-use Rattle.kinds.specs.declared.operator.UpdateOperator.{UpdateOperator}
-use Rattle.kinds.specs.declared.operator.UpdateOperator.the-variants as update
-use Rattle.kinds.specs.declared.operator.BinaryOperator.{BinaryOperator}
-use Rattle.kinds.specs.declared.operator.BinaryOperator.the-variants as binary
-use Rattle.kinds.specs.declared.form.Constant.{Constant}
-use Rattle.kinds.specs.declared.form.Constant.the-variants as constant
-use Rattle.kinds.specs.declared.form.Form.{Form}
 use Rattle.kinds.specs.declared.form.Form.the-variants as form
-use Rattle.kinds.specs.declared.form.Binding.{Binding}
-use Rattle.kinds.specs.declared.form.Binding.the-variants as binding
 use Rattle.kinds.specs.declared.form.Key.{Key}
 use Rattle.kinds.specs.declared.form.Key.the-variants as key
-use Rattle.kinds.specs.declared.form.Own.{Own}
-use Rattle.kinds.specs.declared.form.Own.the-variants as own
-use Rattle.kinds.specs.declared.form.Arguments.{Arguments}
-use Rattle.kinds.specs.declared.form.Arguments.the-variants as arguments
-use Rattle.kinds.specs.declared.form.Link.{Link}
-use Rattle.kinds.specs.declared.form.Link.the-variants as link
-use Rattle.kinds.specs.declared.form.Entry.{Entry}
-use Rattle.kinds.specs.declared.form.Entry.the-variants as entry
-use Rattle.kinds.specs.declared.operator.Side.{Side}
-use Rattle.kinds.specs.declared.operator.Side.the-variants as side
 use Rattle.kinds.specs.declared.level.Slot.{Slot}
 use Rattle.kinds.specs.declared.level.Slot.the-variants as slot
-use Rattle.grammar.specs.Codes.{openParen, closeParen, openBracket, closeBracket, openBrace, closeBrace, semicolon, comma, dot, colon, question, questionDot, arrow, equals, wordThis, wordFunction, wordIn, wordNew, wordAwait, wordYield, wordVar, wordReturn, wordIf, wordElse, wordWhile, wordFor, constantCode, unaryCode, updateCode, binaryCode}
-use Rattle.grammar.specs.Site.{ok, isExpression, Sort, expression, statement, block, declaration, property, script, nothing, sortRank, Attr, isSort, valued, Site, at, start, body, blockOnly, stmt, closed, init, varInit, forLeft, varIn, prop, plainName, valuedName, keyName, root}
-use Rattle.grammar.specs.Tree.{Head, head, headOf, Tree, Forest, node, nil, _▸_}
-use Rattle.grammar.specs.Layout.{Lay, end, tok, child, inside, commas, listed, run, rest, butLast, argumentsOf, parameters, names, fnOf, varOf, initSite, leftSite, kid, firstStanding, layout, attr, attrs, attrOf}
+use Rattle.grammar.specs.Codes.{openParen, closeParen, openBracket, closeBracket, dot, equals}
+use Rattle.grammar.specs.Site.{ok, isExpression, Sort, declaration, property, script, sortRank, Attr, isSort, valued, at, init, varInit, varIn, plainName, valuedName}
+use Rattle.grammar.specs.Tree.{head, headOf, Tree, Forest, node, nil, _▸_}
+use Rattle.grammar.specs.Layout.{tok, names, varOf, kid, firstStanding, attr, attrs, attrOf}
 use Rattle.grammar.specs.Derives.{token, loOf, Derives, Follows, derive, d-end, d-stop, d-tok, d-kid}
-use Rattle.kinds.specs.Levels.{Standing, member, callMember, primary, isC, isTarget, fits}
+use Rattle.kinds.specs.Levels.{member, callMember, primary, isC, isTarget, fits}
 use Rattle.grammar.specs.Productions.{Expression, MemberExpression, CallOrMemberExpression, IdentifierName, SimpleTarget, Units, Productions, Lists}
-use Rattle.grammar.proofs.Tests.{and-l, and-r, and-i, imp, mp, is-false}
-use Rattle.grammar.proofs.Laws.{all, standings, at-standing}
+use Rattle.grammar.proofs.Sorts.{by-sort}
+use Rattle.grammar.proofs.Tests.{all, and-l, and-r, and-i, imp, mp, is-false}
+use Rattle.grammar.proofs.Laws.{standings, at-standing}
 use Rattle.grammar.proofs.Fills.{derives-good}
 
 -- What fits the slot p fits q.
@@ -121,14 +91,7 @@ paren-target cs h = go (isTarget (firstStanding cs)) h
 
 -- An expression is no Var.
 not-declaration : (s : Sort) → T (eqb 0 (sortRank s)) → eqb 3 (sortRank s) ≡ false
-not-declaration expression h = refl
-not-declaration statement h = refl
-not-declaration block h = refl
-not-declaration declaration h = absurd h
-not-declaration property h = refl
-not-declaration valued h = refl
-not-declaration script h = refl
-not-declaration nothing h = refl
+not-declaration s h = is-false _ (by-sort (λ s. eqb 0 (sortRank s)) (λ s. not (eqb 3 (sortRank s))) tt s h)
 
 is-true : (x : Bool) → T x → x ≡ true
 is-true true h = refl
@@ -144,26 +107,19 @@ from-var-init {t} {ks} {r} d =
     let e : isSort declaration (attr t) ≡ true = is-true _ (and-l (isSort declaration (attr t)) _ (derives-good d .0)) in
     subst (λ (b : Bool). Derives (cond b varInit init) t ks r) (sym e) d
 
-from-left : {t : Tree} {ks r : List Token} → Derives forLeft t ks r → Derives (cond (isSort declaration (attr t)) varIn forLeft) t ks r
+from-left : {t : Tree} {ks r : List Token} → Derives (at slot.Target) t ks r → Derives (cond (isSort declaration (attr t)) varIn (at slot.Target)) t ks r
 from-left {t} {ks} {r} d =
     let e : isSort declaration (attr t) ≡ false = not-declaration (attr t .sort) (and-l (isExpression (attr t)) _ (derives-good d .0)) in
-    subst (λ (b : Bool). Derives (cond b varIn forLeft) t ks r) (sym e) d
+    subst (λ (b : Bool). Derives (cond b varIn (at slot.Target)) t ks r) (sym e) d
 
-from-var-in : {t : Tree} {ks r : List Token} → Derives varIn t ks r → Derives (cond (isSort declaration (attr t)) varIn forLeft) t ks r
+from-var-in : {t : Tree} {ks r : List Token} → Derives varIn t ks r → Derives (cond (isSort declaration (attr t)) varIn (at slot.Target)) t ks r
 from-var-in {t} {ks} {r} d =
     let e : isSort declaration (attr t) ≡ true = is-true _ (and-l (isSort declaration (attr t)) _ (derives-good d .0)) in
-    subst (λ (b : Bool). Derives (cond b varIn forLeft) t ks r) (sym e) d
+    subst (λ (b : Bool). Derives (cond b varIn (at slot.Target)) t ks r) (sym e) d
 
 -- An expression is no Name with a value.
 not-valued : (s : Sort) → T (eqb 0 (sortRank s)) → eqb 5 (sortRank s) ≡ false
-not-valued expression h = refl
-not-valued statement h = refl
-not-valued block h = refl
-not-valued declaration h = refl
-not-valued property h = refl
-not-valued valued h = absurd h
-not-valued script h = refl
-not-valued nothing h = refl
+not-valued s h = is-false _ (by-sort (λ s. eqb 0 (sortRank s)) (λ s. not (eqb 5 (sortRank s))) tt s h)
 
 from-name : {u : Tree} {us : Forest} {ks js r : List Token} {h0 h : ℕ} → Derives plainName u ks js → Follows false (names (attrs us) false) us js r (headOf u .hi) h → Follows false (varOf (attrs (u ▸ us))) (u ▸ us) ks r h0 h
 unfolding attrs

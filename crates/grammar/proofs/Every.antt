@@ -1,65 +1,26 @@
 -- Every derivation is found by the reader: the claim holds of every form.
-use mathlib.Core.Path.{_≡_, refl, sym, _∙_, ap, subst}
-use mathlib.Core.List.{List, [], _∷_}
-use mathlib.Core.Bool.{Bool, true, false, cond, not, _&&_, _||_}
-use Prim.Native.Nat.{ℕ, zero, suc, _+_, _*_, _≤_, _<_}
-use native.Mathlib.Omega.{arith}
+use mathlib.Core.Path.{_≡_, refl, ap, subst}
+use mathlib.Core.List.{List}
+use mathlib.Core.Bool.{Bool, true, false, not, _&&_, _||_}
+use Prim.Native.Nat.{ℕ}
 use lib.Dec.{T, eqb}
-use lib.ListN.{length}
-use Rattle.token.specs.Same.{sameCode}
 use Rattle.token.specs.declared.Token.{Token}
-use Rattle.token.specs.declared.Code.{Code}
-use Rattle.token.specs.declared.Code.the-variants as code
 use Rattle.token.specs.declared.word.Word.{Word}
-use Rattle.token.specs.declared.word.Word.the-variants as word
-use Rattle.token.specs.declared.punctuator.Punctuator.{Punctuator}
-use Rattle.token.specs.declared.punctuator.Punctuator.the-variants as punctuator
-use Rattle.token.specs.declared.operator.Operator.{Operator}
-use Rattle.token.specs.declared.operator.Operator.the-variants as operator
-use Rattle.token.specs.declared.operator.AssignOperator.{AssignOperator}
-use Rattle.token.specs.declared.operator.AssignOperator.the-variants as assign
-use Rattle.kinds.specs.declared.operator.UnaryOperator.{UnaryOperator}
-use Rattle.kinds.specs.declared.operator.UnaryOperator.the-variants as unaryOp
-use Rattle.kinds.specs.declared.operator.UpdateOperator.{UpdateOperator}
-use Rattle.kinds.specs.declared.operator.UpdateOperator.the-variants as updateOp
-use Rattle.kinds.specs.declared.operator.BinaryOperator.{BinaryOperator}
-use Rattle.kinds.specs.declared.operator.BinaryOperator.the-variants as binary
-use Rattle.kinds.specs.declared.form.Constant.{Constant}
-use Rattle.kinds.specs.declared.form.Constant.the-variants as constant
 use Rattle.kinds.specs.declared.form.Form.{Form}
 use Rattle.kinds.specs.declared.form.Form.the-variants as form
-use Rattle.kinds.specs.declared.form.Binding.{Binding}
 use Rattle.kinds.specs.declared.form.Binding.the-variants as binding
-use Rattle.kinds.specs.declared.form.Key.{Key}
-use Rattle.kinds.specs.declared.form.Key.the-variants as key
-use Rattle.kinds.specs.declared.form.Own.{Own}
-use Rattle.kinds.specs.declared.form.Own.the-variants as own
-use Rattle.kinds.specs.declared.form.Arguments.{Arguments}
-use Rattle.kinds.specs.declared.form.Arguments.the-variants as arguments
-use Rattle.kinds.specs.declared.form.Link.{Link}
-use Rattle.kinds.specs.declared.form.Link.the-variants as link
-use Rattle.kinds.specs.declared.form.Entry.{Entry}
-use Rattle.kinds.specs.declared.form.Entry.the-variants as entry
-use Rattle.kinds.specs.declared.operator.Side.{Side}
-use Rattle.kinds.specs.declared.operator.Side.the-variants as side
-use Rattle.kinds.specs.declared.level.Slot.{Slot}
-use Rattle.kinds.specs.declared.level.Slot.the-variants as slot
-use Rattle.kinds.specs.Levels.{Standing, sequence, assignment, conditional, unary, update, bareNew, optional, call, callMember, primary, member, isC, isO, isTarget, binaryStanding, fits}
-use Rattle.grammar.specs.Codes.{openParen, closeParen, openBracket, closeBracket, openBrace, closeBrace, semicolon, comma, dot, colon, question, questionDot, arrow, equals, wordThis, wordFunction, wordIn, wordNew, wordAwait, wordYield, wordVar, wordReturn, wordIf, wordElse, wordWhile, wordFor, constantCode, unaryCode, updateCode, binaryCode}
-use Rattle.grammar.specs.Site.{Sort, expression, statement, block, declaration, property, valued, script, nothing, sortRank, Begin, brace, Attr, isSort, isExpression, isStatement, isOther, isBrace, Site, at, start, body, blockOnly, stmt, closed, init, varInit, forLeft, varIn, prop, plainName, valuedName, keyName, root, ok, inHead}
-use Rattle.grammar.specs.Tree.{Head, head, headOf, Tree, Forest, node, nil, _▸_}
-use Rattle.grammar.specs.Layout.{Lay, end, stop, tok, kid, commas, listed, layout, inOperator, attrOf, attr, attrs, anyOpen, lastDangles, codeBegin, rest, butLast, names as namesOf, run as runOf, initSite, leftSite}
-use Rattle.kinds.specs.Levels.{leftSlot, rightSlot}
-use Rattle.grammar.specs.Derives.{token, loOf}
-use Rattle.grammar.specs.Parser.{Goal, ex, stm, blk, dec, prp, nam, scr, Mode, same, free, shut, mode, Do, fin, eat, sub, peek, more, items, stms, operand, names, behind, starts, skip, opens, firstOpens, atStop, tailOf, prefix, frameDo, After, operates, separates, asks, ends, cannot, after, next, Frame, fSeq, fAsg, fCnd, fNul, fOr, fAnd, fBor, fXor, fBand, fEq, fRel, fIn, fShf, fAdd, fMul, fPow, fPost, fMem, fCall, fLink, fEnd, fNever, frame, binaryFrame, isFrame, firstSlot, grown, takes, settle, arrowDo, parenDo, inOr, forTest}
-use Rattle.grammar.proofs.Tests.{and-l, and-r, and-i, or-l, is-true, is-false, no-both, imp, mp}
-use Rattle.grammar.proofs.Laws.{called, guard, ends as endsAt, closes, closes-ends, guard-real, guard-first, isNever, isComma, isCall, isBoth, edge-unary, edge-assignment, edge-conditional, edge-bare-new, edge-update, edge-binary, edge-sequence, edge-name, no-list, callee, no-operand, end-closes, comma-closes, in-closes, in-closes-item, target-call, call-optional, chain-optional}
-use Rattle.grammar.proofs.Fills.{Fills, f-end, f-stop, f-tok, f-kid}
-use Rattle.grammar.proofs.Steps.{Claim, Through, To, Parses, Runs, goes, okAfter, tokenBegin, not-starts, no-start, stop as stops, parses, run-fin, run-eat, run-sub, run-as, run-if, run-else, begin-eat, begin-sub, begin-frame, peek-yes, peek-no, operand-some, operand-none, behind-none}
-use Rattle.grammar.proofs.Lists.{nor-l, nor-r, cond-t, cond-f, first-opens, first-not, at-expression, at-fits, parses-at, after-item, more-runs, items-run, list-runs, names-run, name-expression, name-fits, name-alone, parses-name, parses-statement, parses-last, parses-closed, statements-run}
+use Rattle.grammar.specs.Site.{Sort, block, declaration, script, nothing, sortRank, Attr, isSort, isExpression, isStatement, Site, at, start, body, blockOnly, stmt, closed, init, varInit, varIn, prop, plainName, valuedName, keyName, root, ok, inHead}
+use Rattle.grammar.specs.Tree.{head, Forest, node}
+use Rattle.grammar.specs.Layout.{layout, attrOf, attr, attrs}
+use Rattle.grammar.specs.Derives.{loOf}
+use Rattle.grammar.specs.Parser.{Goal, ex, stm, blk, dec, prp, nam, scr, shut}
+use Rattle.grammar.proofs.Tests.{and-l}
+use Rattle.grammar.proofs.Fills.{Fills}
+use Rattle.grammar.proofs.Steps.{Claim, Through, To, goes, okAfter}
 use Rattle.grammar.specs.Layout.{beginOf}
-use Rattle.grammar.proofs.Fills.{Step, fold}
+use Rattle.grammar.proofs.Fills.{Step}
 use Rattle.grammar.proofs.First.{Facts, facts, le-fills}
+use Rattle.grammar.proofs.Shut.{shut as stays-shut}
 use Rattle.grammar.proofs.Balance.{skip-fills, balanced}
 use Rattle.grammar.proofs.Expressions.{read-array, read-object, read-prop, read-fn, read-arrow, read-paren, read-unary, read-await, read-update, read-binary, read-assign, read-cond, read-seq}
 use Rattle.grammar.proofs.Suffixes.{read-call, read-member, read-chain, read-new, read-yield, read-name, read-num, read-str, read-word, read-this}
@@ -70,12 +31,12 @@ whole : (f : Form) (s : Site) {us : Forest} {ks r : List Token} {h : ℕ} → T 
 unfolding attr
 whole f s {us} {ks} {r} {h} n m k d to =
     let x : Facts (attrOf f (attrs us)) (beginOf (layout f (attrs us)) (attrs us)) ks r = facts f us (inHead s) n m d in
-    record { fit = k; lo = refl; le = le-fills d; less = λ z. x .less; firstly = x .firstly; begin = x .begin; alone = x .alone; skips = λ e. skip-fills d e e (balanced f (attrs us) e); to = to }
+    record { fit = k; lo = refl; le = le-fills d; less = λ z. x .less; firstly = x .firstly; begin = x .begin; alone = x .alone; shut = stays-shut f (inHead s) d; skips = λ e. skip-fills d e e (balanced f (attrs us) e); to = to }
 
 -- A script is read by itself, not as a part.
 script-claim : (s : Site) {us : Forest} {ks r : List Token} {h : ℕ} → T (ok s (attrOf form.Script (attrs us))) → Fills Claim (inHead s) (layout form.Script (attrs us)) us ks r 0 h → Claim s (node (head form.Script (loOf ks) h) us) ks r
 unfolding attr
-script-claim s {us} {ks} {r} {h} k d = record { fit = k; lo = refl; le = le-fills d; less = λ z. absurd z; firstly = tt; begin = λ e. absurd e; alone = λ e. absurd e; skips = λ e. skip-fills d e e (balanced form.Script (attrs us) e); to = record { via = go } }
+script-claim s {us} {ks} {r} {h} k d = record { fit = k; lo = refl; le = le-fills d; less = λ z. absurd z; firstly = tt; begin = λ e. absurd e; alone = λ e. absurd e; shut = λ e. absurd e; skips = λ e. skip-fills d e e (balanced form.Script (attrs us) e); to = record { via = go } }
   where
     go : (b : Bool) (q : Goal) → T (goes (inHead s) q (attr (node (head form.Script (loOf ks) h) us))) → T (b || not (attr (node (head form.Script (loOf ks) h) us) .bareIn)) → T (okAfter b q (attr (node (head form.Script (loOf ks) h) us)) r) → Through b q (node (head form.Script (loOf ks) h) us) ks r
     go b (ex p) g nb ga = absurd g
@@ -92,7 +53,7 @@ no-body false true z e g h = subst T g tt
 no-body false false z e g h = h
 
 -- A free record and a hole stand nowhere.
-nowhere : (s : Site) (a : Attr) → a .sort ≡ nothing → T (ok s a) → ⊥
+pub nowhere : (s : Site) (a : Attr) → a .sort ≡ nothing → T (ok s a) → ⊥
 nowhere (at p) a e h = subst T (ap (λ (x : Sort). eqb 0 (sortRank x)) e) (and-l (isExpression a) _ h)
 nowhere start a e h = subst T (ap (λ (x : Sort). eqb 0 (sortRank x)) e) (and-l (isExpression a) _ h)
 nowhere body a e h = no-body (isSort block a) (isExpression a) _ (ap (λ (x : Sort). eqb 2 (sortRank x)) e) (ap (λ (x : Sort). eqb 0 (sortRank x)) e) h
@@ -101,7 +62,6 @@ nowhere stmt a e h = subst T (ap (λ (x : Sort). eqb 1 (sortRank x) || (eqb 2 (s
 nowhere closed a e h = subst T (ap (λ (x : Sort). eqb 1 (sortRank x) || (eqb 2 (sortRank x) || eqb 3 (sortRank x))) e) (and-l (isStatement a) _ h)
 nowhere init a e h = subst T (ap (λ (x : Sort). eqb 0 (sortRank x)) e) (and-l (isExpression a) _ h)
 nowhere varInit a e h = subst T (ap (λ (x : Sort). eqb 3 (sortRank x)) e) (and-l (isSort declaration a) _ h)
-nowhere forLeft a e h = subst T (ap (λ (x : Sort). eqb 0 (sortRank x)) e) (and-l (isExpression a) _ h)
 nowhere varIn a e h = subst T (ap (λ (x : Sort). eqb 3 (sortRank x)) e) (and-l (isSort declaration a) _ h)
 nowhere prop a e h = subst T (ap (λ (x : Sort). eqb 4 (sortRank x)) e) h
 nowhere plainName a e h = subst T (ap (λ (x : Sort). eqb 0 (sortRank x)) e) (and-l (isExpression a) _ h)

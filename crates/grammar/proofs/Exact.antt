@@ -1,12 +1,11 @@
 -- The reader accepts exactly the token lists that have a reading, and gives it; so no token list has two.
-use mathlib.Core.Path.{_≡_, refl, sym, _∙_, ap, subst}
+use mathlib.Core.Path.{_≡_, refl, sym, subst}
 use mathlib.Core.List.{List, [], _∷_}
-use mathlib.Core.Bool.{Bool, true, false, cond, not, _&&_, _||_}
-use mathlib.Core.Logic.{_↔_}
-use mathlib.Core.Option.{Option, none, some, Option·none-ne-some}
-use Prim.Native.Nat.{ℕ, zero, suc, _+_, _*_, _≤_, _<_}
+use mathlib.Core.Bool.{Bool, true, false, cond, _&&_}
+use mathlib.Core.Option.{none, some, Option·none-ne-some}
+use Prim.Native.Nat.{ℕ, zero, suc, _+_, _*_, _≤_}
 use native.Mathlib.Omega.{arith}
-use lib.Dec.{T, eqb}
+use lib.Dec.{T}
 use lib.ListN.{length}
 use Rattle.token.specs.Same.{sameCode}
 use Rattle.token.proofs.Same.{same-one, same-self}
@@ -14,19 +13,18 @@ use Rattle.token.specs.declared.Token.{Token}
 use Rattle.token.specs.declared.Code.{Code}
 use Rattle.kinds.specs.declared.form.Form.{Form}
 use Rattle.kinds.specs.declared.form.Form.the-variants as form
-use Rattle.kinds.specs.declared.form.Binding.{Binding}
 use Rattle.kinds.specs.declared.form.Binding.the-variants as binding
 use Rattle.grammar.specs.Codes.{wordElse}
-use Rattle.grammar.specs.Site.{Site, root, ok, inHead}
-use Rattle.grammar.specs.Tree.{Head, head, headOf, Tree, Forest, node, nil, _▸_}
-use Rattle.grammar.specs.Layout.{Lay, end, layout, attrOf, attr, attrs, good, Good, wr}
+use Rattle.grammar.specs.Site.{root, ok}
+use Rattle.grammar.specs.Tree.{head, Tree, Forest, node}
+use Rattle.grammar.specs.Layout.{end, layout, attrOf, attr, attrs, good, Good, wr}
 use Rattle.grammar.specs.Derives.{loOf, Derives, Follows, derive}
-use Rattle.grammar.specs.Shape.{codes, shape}
-use Rattle.grammar.specs.Parser.{Res, scr, stms, fin, atStop, starts, settle, ran, bind, parse, loop, perform}
+use Rattle.grammar.specs.Shape.{codes}
+use Rattle.grammar.specs.Parser.{Res, scr, stms, fin, atStop, starts, parse, loop}
 use Rattle.grammar.specs.Read.{sameCodes, empty, entire, checked, read}
-use Rattle.grammar.specs.Claim.{Unambiguous, Read-derives, Derived-good, Good-derives}
+use Rattle.grammar.specs.Claim.{Unambiguous, Read-derives, Derived-good, Good-derives, Part-good, Part-derives}
 use Rattle.grammar.proofs.Tests.{and-l, and-r, and-i, is-true}
-use Rattle.grammar.proofs.Fills.{Fills, f-end, fold, fold-all, derives-good}
+use Rattle.grammar.proofs.Fills.{Fills, f-end, fold-all, derives-good}
 use Rattle.grammar.proofs.Shapes.{good-reads}
 use Rattle.grammar.proofs.Steps.{Claim, Runs, run-fin}
 use Rattle.grammar.proofs.Lists.{statements-run}
@@ -128,6 +126,12 @@ accepted ts (some x) t h =
     let e2 : T (ok root (attr (x .0)) && (good (x .0) && sameCodes (codes ts) (wr false (x .0) []))) = and-r (empty (x .1)) _ e in
     let e3 : T (good (x .0) && sameCodes (codes ts) (wr false (x .0) [])) = and-r (ok root (attr (x .0))) _ e2 in
     subst (λ (t : Tree). T (ok root (attr t)) × Good t × (wr false t [] ≡ codes ts)) q (and-l (ok root (attr (x .0))) _ e2, and-l (good (x .0)) _ e3, sym (codes-path (codes ts) (wr false (x .0) []) (and-r (good (x .0)) _ e3)))
+
+pub part-good : Part-good
+part-good s t ks r d = derives-good d
+
+pub part-derives : Part-derives
+part-derives s t o g ks k e = good-reads t g s o ks k e
 
 pub derived-good : Derived-good
 derived-good ts t d = let (o, g, w) = derives-good d in (o, g, sym w)

@@ -2,61 +2,42 @@
 use mathlib.Core.Path.{_≡_, refl, sym, _∙_, ap, subst}
 use mathlib.Core.List.{List, [], _∷_}
 use mathlib.Core.Bool.{Bool, true, false, cond, not, _&&_, _||_}
-use Prim.Native.Nat.{ℕ, zero, suc, _+_, _*_, _≤_, _<_}
+use Prim.Native.Nat.{ℕ}
 use native.Mathlib.Omega.{arith}
 use lib.Dec.{T, eqb}
-use lib.ListN.{length}
 use Rattle.token.specs.Same.{sameCode}
 use Rattle.token.specs.declared.Token.{Token}
-use Rattle.token.specs.declared.Code.{Code}
-use Rattle.token.specs.declared.Code.the-variants as code
-use Rattle.token.specs.declared.word.Word.{Word}
-use Rattle.token.specs.declared.word.Word.the-variants as word
-use Rattle.token.specs.declared.punctuator.Punctuator.{Punctuator}
-use Rattle.token.specs.declared.punctuator.Punctuator.the-variants as punctuator
-use Rattle.token.specs.declared.operator.Operator.{Operator}
-use Rattle.token.specs.declared.operator.Operator.the-variants as operator
 use Rattle.token.specs.declared.operator.AssignOperator.{AssignOperator}
-use Rattle.token.specs.declared.operator.AssignOperator.the-variants as assign
 use Rattle.kinds.specs.declared.operator.UnaryOperator.{UnaryOperator}
 use Rattle.kinds.specs.declared.operator.UnaryOperator.the-variants as unaryOp
 use Rattle.kinds.specs.declared.operator.UpdateOperator.{UpdateOperator}
 use Rattle.kinds.specs.declared.operator.UpdateOperator.the-variants as updateOp
 use Rattle.kinds.specs.declared.operator.BinaryOperator.{BinaryOperator}
 use Rattle.kinds.specs.declared.operator.BinaryOperator.the-variants as binary
-use Rattle.kinds.specs.declared.form.Constant.{Constant}
-use Rattle.kinds.specs.declared.form.Constant.the-variants as constant
 use Rattle.kinds.specs.declared.form.Form.{Form}
 use Rattle.kinds.specs.declared.form.Form.the-variants as form
-use Rattle.kinds.specs.declared.form.Binding.{Binding}
-use Rattle.kinds.specs.declared.form.Binding.the-variants as binding
 use Rattle.kinds.specs.declared.form.Key.{Key}
 use Rattle.kinds.specs.declared.form.Key.the-variants as key
 use Rattle.kinds.specs.declared.form.Own.{Own}
 use Rattle.kinds.specs.declared.form.Own.the-variants as own
-use Rattle.kinds.specs.declared.form.Arguments.{Arguments}
-use Rattle.kinds.specs.declared.form.Arguments.the-variants as arguments
-use Rattle.kinds.specs.declared.form.Link.{Link}
-use Rattle.kinds.specs.declared.form.Link.the-variants as link
-use Rattle.kinds.specs.declared.form.Entry.{Entry}
-use Rattle.kinds.specs.declared.form.Entry.the-variants as entry
 use Rattle.kinds.specs.declared.operator.Side.{Side}
 use Rattle.kinds.specs.declared.operator.Side.the-variants as side
 use Rattle.kinds.specs.declared.level.Slot.{Slot}
 use Rattle.kinds.specs.declared.level.Slot.the-variants as slot
-use Rattle.kinds.specs.Levels.{Standing, sequence, assignment, conditional, unary, update, bareNew, optional, call, callMember, primary, member, isC, isO, isTarget, binaryStanding, fits}
-use Rattle.grammar.specs.Codes.{openParen, closeParen, openBracket, closeBracket, openBrace, closeBrace, semicolon, comma, dot, colon, question, questionDot, arrow, equals, wordThis, wordFunction, wordIn, wordNew, wordAwait, wordYield, wordVar, wordReturn, wordIf, wordElse, wordWhile, wordFor, constantCode, unaryCode, updateCode, binaryCode}
-use Rattle.grammar.specs.Site.{Sort, expression, statement, block, declaration, property, valued, script, nothing, sortRank, Begin, brace, function, other, Attr, isSort, isExpression, isStatement, isOther, isBrace, Site, at, start, body, blockOnly, stmt, closed, init, varInit, forLeft, varIn, prop, plainName, valuedName, keyName, root, ok, inHead}
-use Rattle.grammar.specs.Tree.{Head, head, headOf, Tree, Forest, node, nil, _▸_}
-use Rattle.grammar.specs.Layout.{Lay, end, stop, tok, kid, commas, listed, layout, inOperator, attrOf, attr, attrs, anyOpen, lastDangles, codeBegin, rest, butLast, names as namesOf, run as runOf, initSite, leftSite}
+use Rattle.kinds.specs.Levels.{Standing, binaryStanding, fits}
+use Rattle.grammar.specs.Codes.{openParen, closeParen, openBracket, openBrace, closeBrace, comma, colon, arrow, wordFunction, wordElse, unaryCode, binaryCode}
+use Rattle.grammar.specs.Site.{Sort, expression, block, declaration, property, valued, sortRank, Begin, brace, function, other, Attr, isSort, isExpression, isStatement, isOther, isBrace, Site, at, body, blockOnly, prop, plainName, inHead}
+use Rattle.grammar.specs.Tree.{head, headOf, Tree, Forest, node, nil, _▸_}
+use Rattle.grammar.specs.Layout.{Lay, end, tok, kid, commas, listed, layout, inOperator, attr, attrs, anyOpen, butLast}
 use Rattle.kinds.specs.Levels.{leftSlot, rightSlot}
 use Rattle.grammar.specs.Derives.{token, loOf}
-use Rattle.grammar.specs.Parser.{Goal, ex, stm, blk, dec, prp, nam, scr, Mode, same, free, shut, mode, Do, fin, eat, sub, peek, more, items, stms, operand, names, behind, starts, skip, opens, firstOpens, atStop, tailOf, prefix, frameDo, After, operates, separates, asks, ends, cannot, after, next, Frame, fSeq, fAsg, fCnd, fNul, fOr, fAnd, fBor, fXor, fBand, fEq, fRel, fIn, fShf, fAdd, fMul, fPow, fPost, fMem, fCall, fLink, fEnd, fNever, frame, binaryFrame, isFrame, firstSlot, grown, takes, settle, arrowDo, parenDo, inOr, forTest}
-use Rattle.grammar.proofs.Tests.{and-l, and-r, and-i, or-l, is-true, is-false, no-both, imp, mp}
-use Rattle.grammar.proofs.Laws.{called, guard, ends as endsAt, closes, closes-ends, guard-real, guard-first, isNever, isComma, isCall, isBoth, edge-unary, edge-assignment, edge-conditional, edge-bare-new, edge-update, edge-binary, edge-sequence, edge-name, no-list, callee, no-operand, end-closes, comma-closes, in-closes, in-closes-item, target-call, call-optional, chain-optional}
-use Rattle.grammar.proofs.Fills.{Fills, f-end, f-stop, f-tok, f-kid}
-use Rattle.grammar.proofs.Steps.{Claim, Through, To, Parses, Runs, goes, okAfter, tokenBegin, not-starts, no-start, stop as stops, parses, run-fin, run-eat, run-sub, run-as, run-if, run-else, begin-eat, begin-sub, begin-frame, peek-yes, peek-no, operand-some, operand-none, behind-none}
-use Rattle.grammar.proofs.Lists.{nor-l, nor-r, cond-t, cond-f, first-opens, first-not, at-expression, at-fits, parses-at, after-item, more-runs, items-run, list-runs, names-run, name-expression, name-fits, name-alone, parses-name, parses-statement, parses-last, parses-closed, statements-run}
+use Rattle.grammar.specs.Parser.{Goal, ex, stm, blk, dec, prp, nam, scr, same, free, fin, eat, sub, peek, starts, skip, atStop, prefix, frameDo, After, operates, after, next, fSeq, fAsg, fCnd, fPost, fCall, fEnd, frame, binaryFrame, takes, settle, arrowDo, parenDo}
+use Rattle.grammar.proofs.Sorts.{by-sort}
+use Rattle.grammar.proofs.Tests.{and-l, and-r, and-i, is-true, is-false, imp, mp}
+use Rattle.grammar.proofs.Laws.{called, guard, closes, closes-ends, guard-real, guard-first, isNever, isComma, edge-unary, edge-assignment, edge-conditional, edge-update, edge-binary, edge-sequence, edge-name, end-closes, comma-closes, target-call}
+use Rattle.grammar.proofs.Fills.{Fills, f-end, f-tok, f-kid}
+use Rattle.grammar.proofs.Steps.{Claim, Through, To, Parses, Runs, goes, okAfter, tokenBegin, no-start, stop as stops, parses, run-fin, run-eat, run-sub, run-if, run-else, begin-eat, begin-sub, begin-frame}
+use Rattle.grammar.proofs.Lists.{nor-l, nor-r, cond-t, cond-f, at-expression, at-fits, parses-at, after-item, more-runs, items-run, list-runs, names-run, name-alone, parses-name}
 
 -- An expression is read for a slot alone.
 pub on-ex : {h : Bool} {t : Tree} {ks r : List Token} → attr t .sort ≡ expression → attr t .single ≡ false → ((b : Bool) (p : Slot) → T (called p) → T (fits p (attr t .standing)) → T (b || not (attr t .bareIn)) → T (guard b p (attr t .standing) (frame (next r))) → Through b (ex p) t ks r) → To h t ks r
@@ -87,34 +68,13 @@ pub parses-block : {u : Tree} {s : Site} {ks js : List Token} → Claim s u ks j
 parses-block {u} {s} {ks} {js} a e = record { less = a .less (block-not-script (attr u .sort) e); done = λ n hn. a .to .via true blk e tt tt .on 1 (u, js) (stops true blk u js refl) n (omega arith) }
   where
     block-not-script : (s : Sort) → T (eqb 2 (sortRank s)) → T (not (eqb 6 (sortRank s)))
-    block-not-script expression h = tt
-    block-not-script statement h = tt
-    block-not-script block h = tt
-    block-not-script declaration h = tt
-    block-not-script property h = tt
-    block-not-script valued h = tt
-    block-not-script script h = h
-    block-not-script nothing h = tt
+    block-not-script s h = by-sort (λ s. eqb 2 (sortRank s)) (λ s. not (eqb 6 (sortRank s))) tt s h
 
 prop-not-script : (s : Sort) → T (eqb 4 (sortRank s)) → T (not (eqb 6 (sortRank s)))
-prop-not-script expression h = tt
-prop-not-script statement h = tt
-prop-not-script block h = tt
-prop-not-script declaration h = tt
-prop-not-script property h = tt
-prop-not-script valued h = tt
-prop-not-script script h = h
-prop-not-script nothing h = tt
+prop-not-script s h = by-sort (λ s. eqb 4 (sortRank s)) (λ s. not (eqb 6 (sortRank s))) tt s h
 
 prop-not-others : (s : Sort) → T (eqb 4 (sortRank s)) → T (not (eqb 0 (sortRank s)) && not (eqb 1 (sortRank s) || (eqb 2 (sortRank s) || eqb 3 (sortRank s))))
-prop-not-others expression h = h
-prop-not-others statement h = h
-prop-not-others block h = h
-prop-not-others declaration h = h
-prop-not-others property h = tt
-prop-not-others valued h = tt
-prop-not-others script h = tt
-prop-not-others nothing h = tt
+prop-not-others s h = by-sort (λ s. eqb 4 (sortRank s)) (λ s. not (eqb 0 (sortRank s)) && not (eqb 1 (sortRank s) || (eqb 2 (sortRank s) || eqb 3 (sortRank s)))) tt s h
 
 parses-prop : {u : Tree} {ks js : List Token} → Claim prop u ks js → T (closes true slot.Assignment (frame (next js))) → Parses true prp u ks js
 parses-prop {u} {ks} {js} a g = record { less = a .less (prop-not-script (attr u .sort) (a .fit)); done = λ n hn. a .to .via true prp (a .fit) tt g .on 1 (u, js) (stops true prp u js refl) n (omega arith) }
@@ -329,24 +289,10 @@ block-first {u = u} {ks = ks} a e =
     mp (isSort block (attr u)) _ (and-l (imp (isSort block (attr u)) (starts openBrace ks)) _ (and-r (not (starts wordElse ks)) _ (and-r (not (atStop ks)) _ (cond-t (isStatement (attr u)) _ _ st (cond-f (isExpression (attr u)) _ _ (block-not-expression (attr u .sort) e) (a .firstly)))))) e
   where
     block-statement : (s : Sort) → T (eqb 2 (sortRank s)) → T (eqb 1 (sortRank s) || (eqb 2 (sortRank s) || eqb 3 (sortRank s)))
-    block-statement expression h = h
-    block-statement statement h = tt
-    block-statement block h = tt
-    block-statement declaration h = tt
-    block-statement property h = h
-    block-statement valued h = h
-    block-statement script h = h
-    block-statement nothing h = h
+    block-statement s h = by-sort (λ s. eqb 2 (sortRank s)) (λ s. eqb 1 (sortRank s) || (eqb 2 (sortRank s) || eqb 3 (sortRank s))) tt s h
 
     block-not-expression : (s : Sort) → T (eqb 2 (sortRank s)) → T (not (eqb 0 (sortRank s)))
-    block-not-expression expression h = h
-    block-not-expression statement h = tt
-    block-not-expression block h = tt
-    block-not-expression declaration h = tt
-    block-not-expression property h = tt
-    block-not-expression valued h = tt
-    block-not-expression script h = tt
-    block-not-expression nothing h = tt
+    block-not-expression s h = by-sort (λ s. eqb 2 (sortRank s)) (λ s. not (eqb 0 (sortRank s))) tt s h
 
 body-run : {b : Bool} {u : Tree} {ks r : List Token} {h0 : ℕ} → Claim body u ks r → T (b || not (attr u .bareIn)) → T (closes b slot.Assignment (frame (next r))) → Runs b (peek openBrace (sub free blk (fin form.Arrow)) (sub same (ex slot.Assignment) (fin form.Arrow))) (u ▸ nil) ks r h0 (headOf u .hi) form.Arrow
 body-run {b} {u} {ks} {r} {h0} a nb g = go (isSort block (attr u)) refl (a .fit)

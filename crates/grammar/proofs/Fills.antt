@@ -1,19 +1,18 @@
 -- Induction over derivations; and that the derived trees are the good ones, written as they are derived. No line for any form.
-use mathlib.Core.Path.{_≡_, refl, sym, _∙_, ap, subst}
-use mathlib.Core.List.{List, [], _∷_}
-use mathlib.Core.Bool.{Bool, true, false, _&&_}
+use mathlib.Core.Path.{_≡_, refl, ap}
+use mathlib.Core.List.{List, _∷_}
+use mathlib.Core.Bool.{Bool, true, false}
 use Prim.Native.Nat.{ℕ}
 use lib.Dec.{T}
 use Rattle.token.specs.declared.Token.{Token}
 use Rattle.token.specs.declared.Code.{Code}
 use Rattle.kinds.specs.declared.form.Form.{Form}
-use Rattle.grammar.specs.Codes.{semicolon}
 use Rattle.grammar.specs.Site.{Site, ok, inHead}
-use Rattle.grammar.specs.Tree.{Head, head, headOf, Tree, Forest, node, nil, _▸_}
-use Rattle.grammar.specs.Layout.{Lay, end, stop, tok, kid, layout, attrOf, attr, attrs, fitKids, good, goods, Good, Text, fill, wr, wrs}
+use Rattle.grammar.specs.Tree.{head, headOf, Tree, Forest, node, nil, _▸_}
+use Rattle.grammar.specs.Layout.{Lay, end, stop, tok, kid, layout, attrOf, attr, attrs, fitKids, good, goods, Good, fill, wr, wrs}
 use Rattle.grammar.specs.Derives.{token, loOf, Stops, Derives, Follows, derive, d-end, d-stop, d-tok, d-kid}
-use Rattle.grammar.specs.Shape.{codes, shape, shapes}
-use Rattle.grammar.proofs.Tests.{and-l, and-r, and-i}
+use Rattle.grammar.specs.Shape.{codes}
+use Rattle.grammar.proofs.Tests.{and-i}
 
 abbrev pub Rel : Type 1
 Rel = Site → Tree → List Token → List Token → Type 0

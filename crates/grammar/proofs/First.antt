@@ -1,57 +1,32 @@
 -- What the tokens of a tree begin with, and that there are some: no line for any form but one test of the table.
-use mathlib.Core.Path.{_≡_, refl, sym, _∙_, ap, subst}
+use mathlib.Core.Path.{_≡_, refl, ap, subst}
 use mathlib.Core.List.{List, [], _∷_}
 use mathlib.Core.Bool.{Bool, true, false, cond, not, _&&_, _||_}
-use Prim.Native.Nat.{ℕ, zero, suc, _+_, _≤_, _<_}
+use Prim.Native.Nat.{ℕ, _≤_, _<_}
 use native.Mathlib.Omega.{arith}
-use lib.Dec.{T, eqb}
+use lib.Dec.{T}
 use lib.ListN.{length}
 use Rattle.token.specs.Same.{sameCode}
 use Rattle.token.specs.declared.Token.{Token}
-use Rattle.token.specs.declared.Code.{Code}
-use Rattle.token.specs.declared.Code.the-variants as code
 use Rattle.token.specs.declared.word.Word.{Word}
-use Rattle.token.specs.declared.word.Word.the-variants as word
-use Rattle.token.specs.declared.punctuator.Punctuator.{Punctuator}
-use Rattle.token.specs.declared.punctuator.Punctuator.the-variants as punctuator
-use Rattle.token.specs.declared.operator.Operator.{Operator}
-use Rattle.token.specs.declared.operator.Operator.the-variants as operator
-use Rattle.token.specs.declared.operator.AssignOperator.{AssignOperator}
-use Rattle.token.specs.declared.operator.AssignOperator.the-variants as assign
-use Rattle.kinds.specs.declared.operator.UnaryOperator.{UnaryOperator}
 use Rattle.kinds.specs.declared.operator.UnaryOperator.the-variants as unary
-use Rattle.kinds.specs.declared.operator.UpdateOperator.{UpdateOperator}
 use Rattle.kinds.specs.declared.operator.UpdateOperator.the-variants as update
-use Rattle.kinds.specs.declared.operator.BinaryOperator.{BinaryOperator}
-use Rattle.kinds.specs.declared.operator.BinaryOperator.the-variants as binary
-use Rattle.kinds.specs.declared.form.Constant.{Constant}
 use Rattle.kinds.specs.declared.form.Constant.the-variants as constant
 use Rattle.kinds.specs.declared.form.Form.{Form}
 use Rattle.kinds.specs.declared.form.Form.the-variants as form
-use Rattle.kinds.specs.declared.form.Binding.{Binding}
 use Rattle.kinds.specs.declared.form.Binding.the-variants as binding
 use Rattle.kinds.specs.declared.form.Key.{Key}
 use Rattle.kinds.specs.declared.form.Key.the-variants as key
-use Rattle.kinds.specs.declared.form.Own.{Own}
-use Rattle.kinds.specs.declared.form.Own.the-variants as own
-use Rattle.kinds.specs.declared.form.Arguments.{Arguments}
-use Rattle.kinds.specs.declared.form.Arguments.the-variants as arguments
-use Rattle.kinds.specs.declared.form.Link.{Link}
 use Rattle.kinds.specs.declared.form.Link.the-variants as link
-use Rattle.kinds.specs.declared.form.Entry.{Entry}
 use Rattle.kinds.specs.declared.form.Entry.the-variants as entry
-use Rattle.kinds.specs.declared.operator.Side.{Side}
 use Rattle.kinds.specs.declared.operator.Side.the-variants as side
-use Rattle.kinds.specs.declared.level.Slot.{Slot}
-use Rattle.kinds.specs.declared.level.Slot.the-variants as slot
-use Rattle.kinds.specs.Levels.{fits}
-use Rattle.grammar.specs.Codes.{openParen, openBracket, openBrace, closeBrace, wordElse}
-use Rattle.grammar.specs.Site.{Sort, Begin, script, declaration, block, nothing, property, Attr, isSort, isExpression, isStatement, isOther, isBrace, Site, at, start, body, blockOnly, stmt, closed, init, varInit, forLeft, varIn, prop, plainName, valuedName, keyName, root, ok}
-use Rattle.grammar.specs.Tree.{Head, head, headOf, Tree, Forest, node, nil, _▸_}
+use Rattle.grammar.specs.Codes.{openParen, openBracket, closeBrace, wordElse}
+use Rattle.grammar.specs.Site.{Begin, script, declaration, block, nothing, property, Attr, isSort, isExpression, isStatement, isOther, Site, at, start, body, blockOnly, stmt, closed, init, varInit, varIn, prop, plainName, valuedName, keyName, root, ok}
+use Rattle.grammar.specs.Tree.{Forest}
 use Rattle.grammar.specs.Layout.{Lay, end, stop, tok, kid, layout, attrOf, attr, attrs, beginOf}
 use Rattle.grammar.specs.Derives.{token}
-use Rattle.grammar.specs.Parser.{starts, opens, firstOpens, atStop}
-use Rattle.grammar.proofs.Tests.{and-l, and-r, and-i, is-true, is-false, no-both, imp, mp}
+use Rattle.grammar.specs.Parser.{starts, opens, firstOpens}
+use Rattle.grammar.proofs.Tests.{and-l, and-r, and-i, no-both, imp, mp}
 use Rattle.grammar.proofs.Fills.{Fills, f-end, f-stop, f-tok, f-kid}
 use Rattle.grammar.proofs.Steps.{Claim, firsts, tokenBegin, not-starts, not-script}
 use Rattle.grammar.proofs.Lists.{first-opens}
@@ -66,7 +41,6 @@ exprSite stmt = false
 exprSite closed = false
 exprSite init = true
 exprSite varInit = false
-exprSite forLeft = true
 exprSite varIn = false
 exprSite prop = false
 exprSite plainName = true
@@ -83,7 +57,6 @@ site-expression stmt a h k = absurd h
 site-expression closed a h k = absurd h
 site-expression init a h k = and-l (isExpression a) _ k
 site-expression varInit a h k = absurd h
-site-expression forLeft a h k = and-l (isExpression a) _ k
 site-expression varIn a h k = absurd h
 site-expression prop a h k = absurd h
 site-expression plainName a h k = and-l (isExpression a) _ k

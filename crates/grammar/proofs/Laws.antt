@@ -1,9 +1,7 @@
 -- Laws of the tables: what may stand behind an expression where it ends. Each is found by computing over all slots, standings and frames.
-use mathlib.Core.Path.{_≡_, refl}
-use mathlib.Core.Bool.{Bool, true, false, cond, not, _&&_, _||_}
+use mathlib.Core.Path.{_≡_}
+use mathlib.Core.Bool.{Bool, true, false, not, _&&_, _||_}
 use mathlib.Core.List.{List, [], _∷_}
-use mathlib.Core.Option.{Option, none, some}
-use Prim.Native.Nat.{ℕ, zero, suc}
 use lib.Dec.{T}
 use Rattle.kinds.specs.Levels.{Standing, sequence, assignment, conditional, coalescing, disjunction, conjunction, bitOr, bitXor, bitAnd, equality, relation, shift, sum, product, power, unary, update, bareNew, optional, call, callMember, primary, literal, member, name, isN, isO, binaryStanding, fits}
 use Rattle.kinds.specs.declared.level.Slot.{Slot}
@@ -12,26 +10,7 @@ use Rattle.kinds.specs.declared.operator.BinaryOperator.{BinaryOperator}
 use Rattle.kinds.specs.declared.operator.BinaryOperator.the-variants as binary
 use Rattle.kinds.specs.Levels.{rightSlot}
 use Rattle.grammar.specs.Parser.{Frame, fSeq, fAsg, fCnd, fNul, fOr, fAnd, fBor, fXor, fBand, fEq, fRel, fIn, fShf, fAdd, fMul, fPow, fPost, fMem, fCall, fLink, fEnd, fNever, firstSlot, grown, isFrame, takes}
-use Rattle.grammar.proofs.Tests.{and-l, and-r, and-i, or-l, or-r, is-true, is-false, imp, mp}
-
--- A test of every element, and what it says of the element at a place.
-abbrev pub all : {A : Type 0} → (A → Bool) → List A → Bool
-all P [] = true
-all P (x ∷ xs) = P x && all P xs
-
-abbrev nth : {A : Type 0} → List A → ℕ → Option A
-nth [] n = none
-nth (x ∷ xs) zero = some x
-nth (x ∷ xs) (suc n) = nth xs n
-
-abbrev holds : {A : Type 0} → (A → Bool) → Option A → Bool
-holds P none = true
-holds P (some x) = P x
-
-pick : {A : Type 0} (P : A → Bool) (xs : List A) (n : ℕ) → T (all P xs) → T (holds P (nth xs n))
-pick P [] n h = tt
-pick P (x ∷ xs) zero h = and-l (P x) _ h
-pick P (x ∷ xs) (suc n) h = pick P xs n (and-r (P x) _ h)
+use Rattle.grammar.proofs.Tests.{and-l, and-r, and-i, or-l, or-r, is-false, imp, mp, all, pick}
 
 abbrev pub standings : List Standing
 standings = sequence ∷ assignment ∷ conditional ∷ coalescing ∷ disjunction ∷ conjunction ∷ bitOr ∷ bitXor ∷ bitAnd ∷ equality ∷ relation ∷ shift ∷ sum ∷ product ∷ power ∷ unary ∷ update ∷ bareNew ∷ optional ∷ call ∷ callMember ∷ primary ∷ literal ∷ member ∷ name ∷ []

@@ -1,4 +1,5 @@
 pub mod Tests
+pub mod Sorts
 pub mod Fills
 pub mod Laws
 pub mod Steps
@@ -17,3 +18,6 @@ pub mod CoreParts
 pub mod CoreForm
 pub mod CoreGood
 pub mod Document
+pub mod Shut
+pub mod Places
+pub mod Sizes

@@ -1,28 +1,27 @@
 -- Lists of children: items between brackets, statements one after the other.
-use mathlib.Core.Path.{_≡_, refl, sym, _∙_, ap, subst}
+use mathlib.Core.Path.{_≡_, refl}
 use mathlib.Core.List.{List, [], _∷_}
 use mathlib.Core.Bool.{Bool, true, false, cond, not, _&&_, _||_}
-use Prim.Native.Nat.{ℕ, zero, suc, _+_, _*_, _≤_, _<_}
+use Prim.Native.Nat.{ℕ}
 use native.Mathlib.Omega.{arith}
 use lib.Dec.{T, eqb}
-use lib.ListN.{length}
 use Rattle.token.specs.Same.{sameCode}
 use Rattle.token.specs.declared.Token.{Token}
 use Rattle.token.specs.declared.Code.{Code}
-use Rattle.kinds.specs.Levels.{Standing, fits}
+use Rattle.kinds.specs.Levels.{fits}
 use Rattle.kinds.specs.declared.form.Form.{Form}
 use Rattle.kinds.specs.declared.level.Slot.{Slot}
 use Rattle.kinds.specs.declared.level.Slot.the-variants as slot
-use Rattle.grammar.specs.Codes.{openParen, openBracket, openBrace, closeBrace, closeParen, closeBracket, comma, equals, wordElse, wordVar, colon}
-use Rattle.grammar.specs.Site.{Sort, expression, statement, block, declaration, property, valued, script, nothing, sortRank, Attr, isSort, isExpression, isStatement, Site, at, stmt, closed, body, blockOnly, prop, plainName, isOther, ok, inHead}
-use Rattle.grammar.specs.Tree.{Head, head, headOf, Tree, Forest, node, nil, _▸_}
-use Rattle.grammar.specs.Layout.{Lay, end, tok, kid, commas, listed, run, attr, attrs, anyOpen}
-use Rattle.grammar.specs.Derives.{token}
-use Rattle.grammar.specs.Parser.{Goal, ex, stm, blk, prp, Mode, same, free, mode, Do, fin, eat, sub, more, items, stms, starts, opens, firstOpens, atStop, after, next, Frame, fSeq, fEnd, frame, settle}
-use Rattle.grammar.proofs.Tests.{imp, and-l, and-r, and-i, is-true, is-false}
-use Rattle.grammar.proofs.Laws.{called, guard, ends, closes, closes-ends, end-closes, comma-closes, edge-name}
-use Rattle.grammar.proofs.Fills.{Fills, f-end, f-tok, f-kid}
-use Rattle.grammar.proofs.Steps.{Claim, Parses, Runs, firsts, tokenBegin, not-starts, stop, parses, not-script, run-fin, run-eat, run-sub, run-as, items-none, items-some, more-none, stms-none, stms-some}
+use Rattle.grammar.specs.Codes.{openParen, openBracket, openBrace, closeParen, comma, wordElse, wordVar}
+use Rattle.grammar.specs.Site.{Sort, block, declaration, sortRank, Attr, isSort, isExpression, isStatement, Site, at, stmt, closed, plainName, isOther}
+use Rattle.grammar.specs.Tree.{Tree, Forest}
+use Rattle.grammar.specs.Layout.{Lay, tok, commas, listed, run, attr, attrs, anyOpen}
+use Rattle.grammar.specs.Parser.{Goal, ex, stm, Mode, free, mode, Do, eat, more, items, stms, starts, opens, firstOpens, atStop, after, next, Frame, fSeq, fEnd, frame}
+use Rattle.grammar.proofs.Sorts.{by-sort}
+use Rattle.grammar.proofs.Tests.{imp, and-l, and-r, and-i, is-false}
+use Rattle.grammar.proofs.Laws.{called, closes, closes-ends, end-closes, comma-closes, edge-name}
+use Rattle.grammar.proofs.Fills.{Fills, f-tok, f-kid}
+use Rattle.grammar.proofs.Steps.{Claim, Parses, Runs, tokenBegin, not-starts, stop, parses, run-eat, run-sub, run-as, items-none, items-some, more-none, stms-none, stms-some}
 
 -- `b`, or neither of x and y.
 pub nor-l : (b x y : Bool) → T (b || not (x || y)) → T (b || not x)
@@ -109,24 +108,10 @@ names-run {h} {b} {ls} {s} {f} {r} {hh} k cs d nb =
 
 -- Statements.
 pub statement-not-script : (s : Sort) → T (eqb 1 (sortRank s) || (eqb 2 (sortRank s) || eqb 3 (sortRank s))) → T (not (eqb 6 (sortRank s)))
-statement-not-script expression h = tt
-statement-not-script statement h = tt
-statement-not-script block h = tt
-statement-not-script declaration h = tt
-statement-not-script property h = tt
-statement-not-script valued h = tt
-statement-not-script script h = h
-statement-not-script nothing h = tt
+statement-not-script s h = by-sort (λ s. eqb 1 (sortRank s) || (eqb 2 (sortRank s) || eqb 3 (sortRank s))) (λ s. not (eqb 6 (sortRank s))) tt s h
 
 pub statement-not-expression : (s : Sort) → T (eqb 1 (sortRank s) || (eqb 2 (sortRank s) || eqb 3 (sortRank s))) → T (not (eqb 0 (sortRank s)))
-statement-not-expression expression h = h
-statement-not-expression statement h = tt
-statement-not-expression block h = tt
-statement-not-expression declaration h = tt
-statement-not-expression property h = tt
-statement-not-expression valued h = tt
-statement-not-expression script h = tt
-statement-not-expression nothing h = tt
+statement-not-expression s h = by-sort (λ s. eqb 1 (sortRank s) || (eqb 2 (sortRank s) || eqb 3 (sortRank s))) (λ s. not (eqb 0 (sortRank s))) tt s h
 
 no-else : (d x : Bool) → x ≡ false → T (not (d && x))
 no-else true x e = rw e tt

@@ -1,64 +1,32 @@
 -- How each form of statement is read.
-use mathlib.Core.Path.{_≡_, refl, sym, _∙_, ap, subst}
+use mathlib.Core.Path.{_≡_, refl, _∙_, ap, subst}
 use mathlib.Core.List.{List, [], _∷_}
 use mathlib.Core.Bool.{Bool, true, false, cond, not, _&&_, _||_}
-use Prim.Native.Nat.{ℕ, zero, suc, _+_, _*_, _≤_, _<_}
+use Prim.Native.Nat.{ℕ}
 use native.Mathlib.Omega.{arith}
 use lib.Dec.{T, eqb}
-use lib.ListN.{length}
 use Rattle.token.specs.Same.{sameCode}
 use Rattle.token.specs.declared.Token.{Token}
 use Rattle.token.specs.declared.Code.{Code}
-use Rattle.token.specs.declared.Code.the-variants as code
-use Rattle.token.specs.declared.word.Word.{Word}
-use Rattle.token.specs.declared.word.Word.the-variants as word
-use Rattle.token.specs.declared.punctuator.Punctuator.{Punctuator}
-use Rattle.token.specs.declared.punctuator.Punctuator.the-variants as punctuator
-use Rattle.token.specs.declared.operator.Operator.{Operator}
-use Rattle.token.specs.declared.operator.Operator.the-variants as operator
-use Rattle.token.specs.declared.operator.AssignOperator.{AssignOperator}
-use Rattle.token.specs.declared.operator.AssignOperator.the-variants as assign
-use Rattle.kinds.specs.declared.operator.UnaryOperator.{UnaryOperator}
-use Rattle.kinds.specs.declared.operator.UnaryOperator.the-variants as unaryOp
-use Rattle.kinds.specs.declared.operator.UpdateOperator.{UpdateOperator}
-use Rattle.kinds.specs.declared.operator.UpdateOperator.the-variants as updateOp
-use Rattle.kinds.specs.declared.operator.BinaryOperator.{BinaryOperator}
-use Rattle.kinds.specs.declared.operator.BinaryOperator.the-variants as binary
-use Rattle.kinds.specs.declared.form.Constant.{Constant}
-use Rattle.kinds.specs.declared.form.Constant.the-variants as constant
 use Rattle.kinds.specs.declared.form.Form.{Form}
 use Rattle.kinds.specs.declared.form.Form.the-variants as form
-use Rattle.kinds.specs.declared.form.Binding.{Binding}
-use Rattle.kinds.specs.declared.form.Binding.the-variants as binding
-use Rattle.kinds.specs.declared.form.Key.{Key}
-use Rattle.kinds.specs.declared.form.Key.the-variants as key
-use Rattle.kinds.specs.declared.form.Own.{Own}
-use Rattle.kinds.specs.declared.form.Own.the-variants as own
-use Rattle.kinds.specs.declared.form.Arguments.{Arguments}
-use Rattle.kinds.specs.declared.form.Arguments.the-variants as arguments
-use Rattle.kinds.specs.declared.form.Link.{Link}
-use Rattle.kinds.specs.declared.form.Link.the-variants as link
-use Rattle.kinds.specs.declared.form.Entry.{Entry}
-use Rattle.kinds.specs.declared.form.Entry.the-variants as entry
-use Rattle.kinds.specs.declared.operator.Side.{Side}
-use Rattle.kinds.specs.declared.operator.Side.the-variants as side
-use Rattle.kinds.specs.declared.level.Slot.{Slot}
 use Rattle.kinds.specs.declared.level.Slot.the-variants as slot
-use Rattle.kinds.specs.Levels.{Standing, sequence, assignment, conditional, unary, update, bareNew, optional, call, callMember, primary, member, isC, isO, isTarget, binaryStanding, fits}
-use Rattle.grammar.specs.Codes.{openParen, closeParen, openBracket, closeBracket, openBrace, closeBrace, semicolon, comma, dot, colon, question, questionDot, arrow, equals, wordThis, wordFunction, wordIn, wordNew, wordAwait, wordYield, wordVar, wordReturn, wordIf, wordElse, wordWhile, wordFor, constantCode, unaryCode, updateCode, binaryCode}
-use Rattle.grammar.specs.Site.{Sort, expression, statement, block, declaration, property, valued, script, nothing, sortRank, Begin, brace, Attr, isSort, isExpression, isStatement, isOther, isBrace, Site, at, start, body, blockOnly, stmt, closed, init, varInit, forLeft, varIn, prop, plainName, valuedName, keyName, root, ok, inHead}
-use Rattle.grammar.specs.Tree.{Head, head, headOf, Tree, Forest, node, nil, _▸_}
-use Rattle.grammar.specs.Layout.{Lay, end, stop, tok, kid, commas, listed, layout, inOperator, attrOf, attr, attrs, anyOpen, lastDangles, codeBegin, rest, butLast, names as namesOf, run as runOf, initSite, leftSite}
-use Rattle.kinds.specs.Levels.{leftSlot, rightSlot}
+use Rattle.grammar.specs.Codes.{openBrace, closeBrace, semicolon, comma, colon, equals, wordIn, wordVar, wordElse}
+use Rattle.grammar.specs.Site.{Sort, expression, statement, block, declaration, property, valued, script, nothing, sortRank, Begin, Attr, isSort, isExpression, isStatement, isOther, Site, at, init, varInit, varIn, inHead}
+use Rattle.grammar.specs.Tree.{head, headOf, Tree, Forest, node, nil, _▸_}
+use Rattle.grammar.specs.Layout.{end, tok, layout, attr, attrs, codeBegin}
 use Rattle.grammar.specs.Derives.{token, loOf}
-use Rattle.grammar.specs.Parser.{Goal, ex, stm, blk, dec, prp, nam, scr, Mode, same, free, shut, mode, Do, fin, eat, sub, peek, more, items, stms, operand, names, behind, starts, skip, opens, firstOpens, atStop, tailOf, prefix, frameDo, After, operates, separates, asks, ends, cannot, after, next, Frame, fSeq, fAsg, fCnd, fNul, fOr, fAnd, fBor, fXor, fBand, fEq, fRel, fIn, fShf, fAdd, fMul, fPow, fPost, fMem, fCall, fLink, fEnd, fNever, frame, binaryFrame, isFrame, firstSlot, grown, takes, settle, arrowDo, parenDo, inOr, forTest}
-use Rattle.grammar.proofs.Tests.{and-l, and-r, and-i, or-l, is-true, is-false, no-both, imp, mp}
-use Rattle.grammar.proofs.Laws.{called, guard, ends as endsAt, closes, closes-ends, guard-real, guard-first, isNever, isComma, isCall, isBoth, edge-unary, edge-assignment, edge-conditional, edge-bare-new, edge-update, edge-binary, edge-sequence, edge-name, no-list, callee, no-operand, end-closes, comma-closes, in-closes, in-closes-item, target-call, call-optional, chain-optional}
-use Rattle.grammar.proofs.Fills.{Fills, f-end, f-stop, f-tok, f-kid}
-use Rattle.grammar.proofs.Steps.{Claim, Through, To, Parses, Runs, goes, okAfter, tokenBegin, not-starts, no-start, stop as stops, parses, run-fin, run-eat, run-sub, run-as, run-if, run-else, begin-eat, begin-sub, begin-frame, peek-yes, peek-no, operand-some, operand-none, behind-none}
-use Rattle.grammar.proofs.Lists.{nor-l, nor-r, cond-t, cond-f, first-opens, first-not, at-expression, at-fits, parses-at, after-item, more-runs, items-run, list-runs, names-run, name-expression, name-fits, name-alone, parses-name, parses-statement, parses-last, parses-closed, statements-run}
-use Rattle.grammar.proofs.Expressions.{on-ex, end-run}
+use Rattle.grammar.specs.Parser.{Goal, ex, stm, blk, dec, prp, nam, scr, free, shut, Do, fin, eat, sub, peek, stms, starts, opens, firstOpens, atStop, prefix, next, fIn, fEnd, frame, settle, inOr, forTest}
+use Rattle.grammar.proofs.Sorts.{by-sort}
+use Rattle.grammar.proofs.Tests.{and-l, and-r, and-i, is-true, is-false, imp, mp}
+use Rattle.grammar.proofs.Laws.{closes, closes-ends, end-closes, in-closes, in-closes-item}
+use Rattle.grammar.proofs.Fills.{Fills, f-end, f-tok, f-kid}
+use Rattle.grammar.proofs.Steps.{tight, Claim, Through, To, Parses, Runs, goes, okAfter, tokenBegin, not-starts, stop as stops, parses, run-fin, run-eat, run-sub, run-if, run-else, begin-eat, begin-sub}
+use Rattle.grammar.proofs.Lists.{cond-t, cond-f, first-opens, first-not, at-expression, parses-at, name-expression, name-alone, parses-statement, parses-last, parses-closed, statements-run}
 use Rattle.grammar.proofs.Lists.{statement-not-expression}
+use Rattle.grammar.proofs.Shut.{tight-at}
+use Rattle.kinds.specs.Levels.{level}
+use lib.Dec.{leb}
 
 -- A statement that is neither a Block nor a Var is read as a statement alone.
 on-stm : {h : Bool} {t : Tree} {ks r : List Token} → attr t .sort ≡ statement → ((b : Bool) → T (not (attr t .dangles && starts wordElse r)) → Through b stm t ks r) → To h t ks r
@@ -146,24 +114,10 @@ read-block s {us} {ks} {r} {h} (f-tok {ks = js} {l = l} {i = i} d) = record { vi
 
 -- The heads of For and ForIn.
 declaration-statement : (s : Sort) → T (eqb 3 (sortRank s)) → T (eqb 1 (sortRank s) || (eqb 2 (sortRank s) || eqb 3 (sortRank s)))
-declaration-statement expression h = h
-declaration-statement statement h = tt
-declaration-statement block h = tt
-declaration-statement declaration h = tt
-declaration-statement property h = h
-declaration-statement valued h = h
-declaration-statement script h = h
-declaration-statement nothing h = h
+declaration-statement s h = by-sort (λ s. eqb 3 (sortRank s)) (λ s. eqb 1 (sortRank s) || (eqb 2 (sortRank s) || eqb 3 (sortRank s))) tt s h
 
 declaration-not-script : (s : Sort) → T (eqb 3 (sortRank s)) → T (not (eqb 6 (sortRank s)))
-declaration-not-script expression h = tt
-declaration-not-script statement h = tt
-declaration-not-script block h = tt
-declaration-not-script declaration h = tt
-declaration-not-script property h = tt
-declaration-not-script valued h = tt
-declaration-not-script script h = h
-declaration-not-script nothing h = tt
+declaration-not-script s h = by-sort (λ s. eqb 3 (sortRank s)) (λ s. not (eqb 6 (sortRank s))) tt s h
 
 -- A Var begins with `var`.
 var-first : {s : Site} {u : Tree} {ks js : List Token} → Claim s u ks js → T (isSort declaration (attr u)) → T (starts wordVar ks)
@@ -190,16 +144,29 @@ init-run {b} {f} {u} {us} {l} {i} {ks} {js} {r} {h0} {h} a p = go (isSort declar
         let ie : T (isExpression (attr u)) = and-l (isExpression (attr u)) _ (a .fit) in
         run-else (first-not semicolon refl ks (first-opens a ie)) (run-else (first-not wordVar refl ks (first-opens a ie)) (run-sub refl (parses a false slot.Expression ie tt tt (and-r (isExpression (attr u)) _ (a .fit)) (closes-ends false slot.Expression (attr u .standing) fEnd (end-closes false slot.Expression) tt)) p))
 
-left-run : {b : Bool} {f : Form} {u : Tree} {us : Forest} {l i : ℕ} {ks js r : List Token} {h0 h : ℕ} → Claim (cond (isSort declaration (attr u)) varIn forLeft) u ks (token wordIn l i ∷ js) → Runs b inOr us (token wordIn l i ∷ js) r (headOf u .hi) h f → Runs b (peek semicolon (forTest false) (peek wordVar (sub shut dec inOr) (sub shut (ex slot.Expression) inOr))) (u ▸ us) ks r h0 h f
+tight-var : (a : Attr) → T (isSort declaration a && a .single) → T (tight a)
+tight-var a h = go (a .sort) (and-l (isSort declaration a) _ h)
+  where
+    go : (s : Sort) → T (eqb 3 (sortRank s)) → T (cond (eqb 0 (sortRank s)) (leb 16 (level (a .standing))) (eqb 3 (sortRank s) && a .single))
+    go expression k = absurd k
+    go statement k = absurd k
+    go block k = absurd k
+    go declaration k = and-r (isSort declaration a) _ h
+    go property k = absurd k
+    go valued k = absurd k
+    go script k = absurd k
+    go nothing k = absurd k
+
+left-run : {b : Bool} {f : Form} {u : Tree} {us : Forest} {l i : ℕ} {ks js r : List Token} {h0 h : ℕ} → Claim (cond (isSort declaration (attr u)) varIn (at slot.Target)) u ks (token wordIn l i ∷ js) → Runs b inOr us (token wordIn l i ∷ js) r (headOf u .hi) h f → Runs b (peek semicolon (forTest false) (peek wordVar (sub shut dec inOr) (sub shut (ex slot.Expression) inOr))) (u ▸ us) ks r h0 h f
 left-run {b} {f} {u} {us} {l} {i} {ks} {js} {r} {h0} {h} a p = go (isSort declaration (attr u)) a
   where
-    go : (x : Bool) → Claim (cond x varIn forLeft) u ks (token wordIn l i ∷ js) → Runs b (peek semicolon (forTest false) (peek wordVar (sub shut dec inOr) (sub shut (ex slot.Expression) inOr))) (u ▸ us) ks r h0 h f
+    go : (x : Bool) → Claim (cond x varIn (at slot.Target)) u ks (token wordIn l i ∷ js) → Runs b (peek semicolon (forTest false) (peek wordVar (sub shut dec inOr) (sub shut (ex slot.Expression) inOr))) (u ▸ us) ks r h0 h f
     go true a =
         let e : T (isSort declaration (attr u)) = and-l (isSort declaration (attr u)) _ (a .fit) in
-        run-else (var-no-semicolon ks (var-first a e)) (run-if (is-true _ (var-first a e)) (run-sub refl (parses-var a tt e (and-r (attr u .single) _ (and-r (isSort declaration (attr u)) _ (a .fit))) (and-i _ _ in-closes-item tt)) p))
+        run-else (var-no-semicolon ks (var-first a e)) (run-if (is-true _ (var-first a e)) (run-sub refl (parses-var a tt e (a .shut (tight-var (attr u) (a .fit))) (and-i _ _ in-closes-item tt)) p))
     go false a =
         let ie : T (isExpression (attr u)) = and-l (isExpression (attr u)) _ (a .fit) in
-        run-else (first-not semicolon refl ks (first-opens a ie)) (run-else (first-not wordVar refl ks (first-opens a ie)) (run-sub refl (parses a false slot.Expression ie tt tt (and-r (fits slot.Target (attr u .standing)) _ (and-r (isExpression (attr u)) _ (a .fit))) (closes-ends false slot.Expression (attr u .standing) fIn in-closes tt)) p))
+        run-else (first-not semicolon refl ks (first-opens a ie)) (run-else (first-not wordVar refl ks (first-opens a ie)) (run-sub refl (parses a false slot.Expression ie tt tt (a .shut (tight-at slot.Target tt a)) (closes-ends false slot.Expression (attr u .standing) fIn in-closes tt)) p))
 
 pub read-for-in : (s : Site) {us : Forest} {ks r : List Token} {h : ℕ} → Fills Claim (inHead s) (layout form.ForIn (attrs us)) us ks r 0 h → To (inHead s) (node (head form.ForIn (loOf ks) h) us) ks r
 unfolding attr attrs

@@ -2,27 +2,28 @@
 use mathlib.Core.Path.{_≡_, refl, sym, _∙_, ap, subst}
 use mathlib.Core.List.{List, [], _∷_}
 use mathlib.Core.Bool.{Bool, true, false, cond, not, _&&_, _||_}
-use mathlib.Core.Option.{Option, none, some}
+use mathlib.Core.Option.{some}
 use Prim.Native.Nat.{ℕ, zero, suc, _+_, _-_, _*_, _≤_, _<_}
 use native.Mathlib.Omega.{arith}
-use lib.Dec.{T, eqb, eqb-refl}
+use lib.Dec.{T, leb, eqb}
 use lib.ListN.{length}
-use Rattle.token.specs.Same.{sameCode, sort, rank}
+use Rattle.token.specs.Same.{sameCode, sort}
 use Rattle.token.proofs.Same.{same-one, same-self}
 use Rattle.token.specs.declared.Token.{Token}
 use Rattle.token.specs.declared.Code.{Code}
-use Rattle.kinds.specs.Levels.{fits}
+use Rattle.kinds.specs.Levels.{level, fits}
 use Rattle.kinds.specs.declared.form.Form.{Form}
 use Rattle.kinds.specs.declared.level.Slot.{Slot}
 use Rattle.kinds.specs.declared.level.Slot.the-variants as slot
 use Rattle.grammar.specs.Codes.{openParen, openBracket, openBrace, closeBrace, comma, equals, wordElse, wordVar}
-use Rattle.grammar.specs.Site.{Sort, expression, statement, block, declaration, property, valued, script, nothing, sortRank, Attr, Begin, other, isOther, isSort, isExpression, isStatement, Site, at, ok, inHead}
-use Rattle.grammar.specs.Tree.{Head, head, headOf, Tree, Forest, node, nil, _▸_}
+use Rattle.grammar.specs.Site.{Sort, block, declaration, property, valued, script, sortRank, Attr, Begin, other, isOther, isSort, isExpression, isStatement, Site, ok, inHead}
+use Rattle.grammar.specs.Tree.{head, headOf, Tree, Forest, node, nil, _▸_}
 use Rattle.grammar.specs.Layout.{attr, codeBegin}
 use Rattle.grammar.specs.Derives.{token, loOf}
-use Rattle.grammar.specs.Parser.{Goal, ex, stm, blk, dec, prp, nam, scr, Mode, mode, free, Do, fin, eat, sub, peek, more, items, stms, operand, behind, starts, skip, firstOpens, atStop, prefix, frameDo, After, after, next, Frame, fEnd, fIn, frame, isFrame, firstSlot, grown, takes, goesOn, settle, Ran, ran, bind, parse, loop, perform}
-use Rattle.grammar.proofs.Tests.{imp, and-l, and-r, and-i, is-true, is-false}
-use Rattle.grammar.proofs.Laws.{called, guard, ends, closes, closes-ends, ends-guard, ends-stop, guard-first, closure}
+use Rattle.grammar.specs.Parser.{Goal, ex, stm, blk, dec, prp, nam, scr, Mode, mode, free, Do, fin, eat, sub, peek, more, items, stms, operand, behind, starts, skip, firstOpens, atStop, prefix, frameDo, After, after, next, Frame, frame, takes, goesOn, settle, ran, parse, loop, perform}
+use Rattle.grammar.proofs.Sorts.{by-sort}
+use Rattle.grammar.proofs.Tests.{imp, and-i, is-true}
+use Rattle.grammar.proofs.Laws.{called, guard, ends, closes, ends-guard, ends-stop, closure}
 
 -- What the tokens of a tree begin with, by its sort.
 abbrev pub firsts : Attr → List Token → Bool
@@ -62,6 +63,10 @@ pub record Through (b : Bool) (q : Goal) (t : Tree) (ks r : List Token) : Type 0
 pub record To (h : Bool) (t : Tree) (ks r : List Token) : Type 0 where
   pub via : (b : Bool) (q : Goal) → T (goes h q (attr t)) → T (b || not (attr t .bareIn)) → T (okAfter b q (attr t) r) → Through b q t ks r
 
+-- Of level 16, or a Var of one Name without value: no `in` stands in the open in such a tree.
+abbrev pub tight : Attr → Bool
+tight a = cond (isExpression a) (leb 16 (level (a .standing))) (isSort declaration a && a .single)
+
 pub record Claim (s : Site) (t : Tree) (ks r : List Token) : Type 0 where
   pub fit : T (ok s (attr t))
   pub lo : headOf t .lo ≡ loOf ks
@@ -70,6 +75,7 @@ pub record Claim (s : Site) (t : Tree) (ks r : List Token) : Type 0 where
   pub firstly : T (firsts (attr t) ks)
   pub begin : T (isExpression (attr t)) → attr t .begin ≡ tokenBegin ks
   pub alone : T (isExpression (attr t) && attr t .single) → T (isOther (tokenBegin ks) && (not (starts openBracket ks) && not (starts openParen ks)))
+  pub shut : T (tight (attr t)) → T (not (attr t .bareIn))
   pub skips : (d : ℕ) → skip d ks ≡ skip d r
   pub to : To (inHead s) t ks r
 
@@ -213,14 +219,7 @@ begin-frame {s0} {u} {us} {c} {l} {i} {h} {ks} {js} {r} {f} {b} {p} {s} a ie cp 
 
 -- An expression is no script.
 pub not-script : (s : Sort) → T (eqb 0 (sortRank s)) → T (not (eqb 6 (sortRank s)))
-not-script expression h = tt
-not-script statement h = tt
-not-script block h = tt
-not-script declaration h = tt
-not-script property h = tt
-not-script valued h = tt
-not-script script h = h
-not-script nothing h = tt
+not-script s h = by-sort (λ s. eqb 0 (sortRank s)) (λ s. not (eqb 6 (sortRank s))) tt s h
 
 -- A child that is an expression.
 pub parses : {s : Site} {t : Tree} {ks r : List Token} → Claim s t ks r → (b : Bool) (p : Slot) → T (isExpression (attr t)) → T (called p) → T (fits p (attr t .standing)) → T (b || not (attr t .bareIn)) → T (ends b p (attr t .standing) (frame (next r))) → Parses b (ex p) t ks r

@@ -8,7 +8,6 @@
 --                    first body of an If is that statement
 --
 -- Assumes nothing.
-use Prim.Native.Nat.{ℕ}
 use mathlib.Core.Bool.{Bool, true, false, cond}
 use Rattle.kinds.specs.declared.form.Form.{Form}
 use Rattle.kinds.specs.declared.form.Form.the-variants as form

@@ -17,7 +17,7 @@ use Rattle.token.specs.declared.Code.{Code}
 use Rattle.kinds.specs.declared.form.Form.{Form}
 use Rattle.grammar.specs.Codes.{semicolon}
 use Rattle.grammar.specs.Site.{Site, ok, inHead}
-use Rattle.grammar.specs.Tree.{Head, head, headOf, Tree, Forest, node, nil, _▸_}
+use Rattle.grammar.specs.Tree.{head, headOf, Tree, Forest, node, nil, _▸_}
 use Rattle.grammar.specs.Layout.{Lay, end, stop, tok, kid, layout, attrOf, attrs}
 
 abbrev pub token : Code → ℕ → ℕ → Token

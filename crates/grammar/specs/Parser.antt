@@ -9,15 +9,13 @@
 --   read ts         the tree that the tokens ts read as, or none
 --
 -- Assumes nothing.
-use Prim.Native.Nat.{ℕ, zero, suc, _+_, _*_}
-use mathlib.Core.Bool.{Bool, true, false, cond, not, _&&_, _||_}
+use Prim.Native.Nat.{ℕ, zero, suc}
+use mathlib.Core.Bool.{Bool, true, false, cond, _&&_}
 use mathlib.Core.List.{List, [], _∷_}
 use mathlib.Core.Option.{Option, none, some}
-use lib.Dec.{T, eqb}
-use lib.ListN.{length}
 use Rattle.token.specs.Same.{sameCode}
 use Rattle.token.specs.declared.Token.{Token}
-use Rattle.kinds.specs.Levels.{Standing, sequence, assignment, conditional, coalescing, disjunction, conjunction, bitOr, bitXor, bitAnd, equality, relation, shift, sum, product, power, unary, update, bareNew, optional, call, callMember, primary, literal, member, name, isC, isO, isN, fits}
+use Rattle.kinds.specs.Levels.{Standing, sequence, assignment, conditional, coalescing, disjunction, conjunction, bitOr, bitXor, bitAnd, equality, relation, shift, sum, product, power, update, optional, call, callMember, member, isC, isO, fits}
 use Rattle.token.specs.declared.Code.{Code}
 use Rattle.token.specs.declared.Code.the-variants as code
 use Rattle.token.specs.declared.word.Word.{Word}
@@ -27,38 +25,29 @@ use Rattle.token.specs.declared.punctuator.Punctuator.the-variants as punctuato
 use Rattle.token.specs.declared.operator.Operator.{Operator}
 use Rattle.token.specs.declared.operator.Operator.the-variants as operator
 use Rattle.token.specs.declared.operator.AssignOperator.{AssignOperator}
-use Rattle.token.specs.declared.operator.AssignOperator.the-variants as assign
-use Rattle.kinds.specs.declared.operator.UnaryOperator.{UnaryOperator}
 use Rattle.kinds.specs.declared.operator.UnaryOperator.the-variants as unaryOp
 use Rattle.kinds.specs.declared.operator.UpdateOperator.{UpdateOperator}
 use Rattle.kinds.specs.declared.operator.UpdateOperator.the-variants as updateOp
 use Rattle.kinds.specs.declared.operator.BinaryOperator.{BinaryOperator}
 use Rattle.kinds.specs.declared.operator.BinaryOperator.the-variants as binary
-use Rattle.kinds.specs.declared.form.Constant.{Constant}
 use Rattle.kinds.specs.declared.form.Constant.the-variants as constant
 use Rattle.kinds.specs.declared.form.Form.{Form}
 use Rattle.kinds.specs.declared.form.Form.the-variants as form
-use Rattle.kinds.specs.declared.form.Binding.{Binding}
 use Rattle.kinds.specs.declared.form.Binding.the-variants as binding
 use Rattle.kinds.specs.declared.form.Key.{Key}
 use Rattle.kinds.specs.declared.form.Key.the-variants as key
-use Rattle.kinds.specs.declared.form.Own.{Own}
 use Rattle.kinds.specs.declared.form.Own.the-variants as own
-use Rattle.kinds.specs.declared.form.Arguments.{Arguments}
 use Rattle.kinds.specs.declared.form.Arguments.the-variants as arguments
-use Rattle.kinds.specs.declared.form.Link.{Link}
 use Rattle.kinds.specs.declared.form.Link.the-variants as link
-use Rattle.kinds.specs.declared.form.Entry.{Entry}
 use Rattle.kinds.specs.declared.form.Entry.the-variants as entry
-use Rattle.kinds.specs.declared.operator.Side.{Side}
 use Rattle.kinds.specs.declared.operator.Side.the-variants as side
 use Rattle.kinds.specs.declared.level.Slot.{Slot}
 use Rattle.kinds.specs.declared.level.Slot.the-variants as slot
 use Rattle.grammar.specs.Codes.{openParen, closeParen, openBracket, closeBracket, openBrace, closeBrace, semicolon, comma, dot, colon, question, questionDot, arrow, equals, wordThis, wordFunction, wordIn, wordNew, wordAwait, wordYield, wordVar, wordReturn, wordIf, wordElse, wordWhile, wordFor, constantCode, unaryCode, updateCode, binaryCode}
-use Rattle.grammar.specs.Site.{Attr, isSort, isExpression}
-use Rattle.grammar.specs.Tree.{Head, head, headOf, Tree, Forest, node, nil, _▸_}
+use Rattle.grammar.specs.Site.{Attr, isExpression}
+use Rattle.grammar.specs.Tree.{head, headOf, Tree, Forest, node, nil, _▸_}
 use Rattle.grammar.specs.Layout.{attr, codeBegin}
-use Rattle.kinds.specs.Levels.{leftSlot, rightSlot}
+use Rattle.kinds.specs.Levels.{rightSlot}
 use Rattle.grammar.specs.Site.{isOther}
 use Rattle.grammar.specs.Derives.{loOf}
 

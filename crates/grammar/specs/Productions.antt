@@ -4,50 +4,30 @@
 --
 -- Assumes nothing.
 use Prim.Native.Nat.{ℕ}
-use mathlib.Core.Bool.{Bool, true, false, not}
+use mathlib.Core.Bool.{true, false}
 use mathlib.Core.List.{List, [], _∷_}
-use lib.Dec.{T, eqb}
 use Rattle.token.specs.declared.Token.{Token}
-use Rattle.token.specs.declared.Code.{Code}
 use Rattle.token.specs.declared.Code.the-variants as code
 use Rattle.token.specs.declared.word.Word.{Word}
-use Rattle.token.specs.declared.word.Word.the-variants as word
-use Rattle.token.specs.declared.punctuator.Punctuator.{Punctuator}
-use Rattle.token.specs.declared.punctuator.Punctuator.the-variants as punctuator
-use Rattle.token.specs.declared.operator.Operator.{Operator}
-use Rattle.token.specs.declared.operator.Operator.the-variants as operator
 use Rattle.token.specs.declared.operator.AssignOperator.{AssignOperator}
-use Rattle.token.specs.declared.operator.AssignOperator.the-variants as assign
-use Rattle.kinds.specs.declared.operator.UnaryOperator.{UnaryOperator}
 use Rattle.kinds.specs.declared.operator.UnaryOperator.the-variants as unary
-use Rattle.kinds.specs.declared.operator.UpdateOperator.{UpdateOperator}
 use Rattle.kinds.specs.declared.operator.UpdateOperator.the-variants as update
-use Rattle.kinds.specs.declared.operator.BinaryOperator.{BinaryOperator}
 use Rattle.kinds.specs.declared.operator.BinaryOperator.the-variants as binary
-use Rattle.kinds.specs.declared.form.Constant.{Constant}
 use Rattle.kinds.specs.declared.form.Constant.the-variants as constant
-use Rattle.kinds.specs.declared.form.Form.{Form}
 use Rattle.kinds.specs.declared.form.Form.the-variants as form
-use Rattle.kinds.specs.declared.form.Binding.{Binding}
 use Rattle.kinds.specs.declared.form.Binding.the-variants as binding
 use Rattle.kinds.specs.declared.form.Key.{Key}
 use Rattle.kinds.specs.declared.form.Key.the-variants as key
-use Rattle.kinds.specs.declared.form.Own.{Own}
 use Rattle.kinds.specs.declared.form.Own.the-variants as own
-use Rattle.kinds.specs.declared.form.Arguments.{Arguments}
 use Rattle.kinds.specs.declared.form.Arguments.the-variants as arguments
-use Rattle.kinds.specs.declared.form.Link.{Link}
 use Rattle.kinds.specs.declared.form.Link.the-variants as link
-use Rattle.kinds.specs.declared.form.Entry.{Entry}
 use Rattle.kinds.specs.declared.form.Entry.the-variants as entry
-use Rattle.kinds.specs.declared.operator.Side.{Side}
 use Rattle.kinds.specs.declared.operator.Side.the-variants as side
-use Rattle.kinds.specs.declared.level.Slot.{Slot}
 use Rattle.kinds.specs.declared.level.Slot.the-variants as slot
 use Rattle.grammar.specs.Codes.{openParen, closeParen, openBracket, closeBracket, openBrace, closeBrace, semicolon, comma, dot, colon, question, questionDot, arrow, equals, wordThis, wordFunction, wordIn, wordNew, wordAwait, wordYield, wordVar, wordReturn, wordIf, wordElse, wordWhile, wordFor, constantCode, unaryCode, updateCode, binaryCode}
-use Rattle.grammar.specs.Site.{Sort, expression, statement, block, declaration, property, script, nothing, sortRank, Attr, isSort, valued, Site, at, start, body, blockOnly, stmt, closed, init, varInit, forLeft, varIn, prop, plainName, valuedName, keyName, root}
-use Rattle.grammar.specs.Tree.{Head, head, headOf, Tree, Forest, node, nil, _▸_}
-use Rattle.grammar.specs.Layout.{Lay, end, tok, child, inside, commas, listed, run, rest, butLast, argumentsOf, parameters, names, fnOf, varOf, initSite, leftSite, layout, attr, attrs}
+use Rattle.grammar.specs.Site.{property, script, at, start, body, blockOnly, stmt, closed, init, varInit, varIn, prop, plainName, valuedName, keyName, root}
+use Rattle.grammar.specs.Tree.{head, headOf, Tree, Forest, node, nil, _▸_}
+use Rattle.grammar.specs.Layout.{Lay, end, tok, child, inside, commas, listed, run, butLast, argumentsOf, parameters, names, fnOf, varOf, initSite, leftSite, layout, attr, attrs}
 use Rattle.grammar.specs.Derives.{token, loOf, Derives, Follows}
 
 abbrev pub Expression : Tree → List Token → List Token → Type 0
@@ -159,7 +139,7 @@ abbrev pub NoInExpression : Tree → List Token → List Token → Type 0
 NoInExpression t ks r = Derives init t ks r
 
 abbrev pub ForInTarget : Tree → List Token → List Token → Type 0
-ForInTarget t ks r = Derives forLeft t ks r
+ForInTarget t ks r = Derives (at slot.Target) t ks r
 
 -- The first part of a head: an expression or a Var.
 abbrev pub ForInit : Tree → List Token → List Token → Type 0

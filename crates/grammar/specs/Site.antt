@@ -77,8 +77,8 @@ pub data Site : Type 0 where
   init : Site
   -- a Var that is the init of a For: no `in` in the open
   varInit : Site
-  -- the left side of a ForIn: a target, or a Var of one Name without value (in neither stands an `in` in the open)
-  forLeft varIn : Site
+  -- a Var on the left of a ForIn: one Name without value
+  varIn : Site
   -- a Prop
   prop : Site
   -- a plain Name; a Name of a Var with a value next to it; a key that is not computed
@@ -95,8 +95,7 @@ ok stmt a = isStatement a
 ok closed a = isStatement a && not (a .dangles)
 ok init a = isExpression a && not (a .bareIn)
 ok varInit a = isSort declaration a && not (a .bareIn)
-ok forLeft a = isExpression a && (fits slot.Target (a .standing) && not (a .bareIn))
-ok varIn a = isSort declaration a && (a .single && not (a .bareIn))
+ok varIn a = isSort declaration a && a .single
 ok prop a = isSort property a
 ok plainName a = isExpression a && (a .single && fits slot.Identifier (a .standing))
 ok keyName a = isExpression a && (a .single && fits slot.PropertyName (a .standing))
@@ -113,7 +112,6 @@ inHead stmt = false
 inHead closed = false
 inHead init = false
 inHead varInit = true
-inHead forLeft = false
 inHead varIn = true
 inHead prop = false
 inHead plainName = false

@@ -3,7 +3,7 @@
 ghost use Rattle.grammar.specs.Rewriting.{Core-law, Good-full};
 ghost use Rattle.grammar.specs.Productions.{Units, Productions, Lists};
 ghost use Rattle.grammar.specs.Examples.{Examples-hold, Cores-hold};
-ghost use Rattle.grammar.specs.Claim.{Unambiguous, Read-derives, Derived-good, Good-derives};
+ghost use Rattle.grammar.specs.Claim.{Unambiguous, Read-derives, Derived-good, Good-derives, Part-good, Part-derives, Parts-placed, Scripts-placed, Sizes-bounded};
 
 /// No token list has two readings.
 pub fn unambiguous() -> u8
@@ -60,6 +60,30 @@ pub fn productions_hold() -> u8
     ensures units { λ _. ⌜ Units ⌝ }
     ensures productions { λ _. ⌜ Productions ⌝ }
     ensures lists { λ _. ⌜ Lists ⌝ }
+{
+    0
+}
+
+/// The place of a record runs from its first token's `lo` to its last token's `hi`; a script without tokens has the place 0 to 0.
+pub fn places_law() -> u8
+    ensures parts { λ _. ⌜ Parts-placed ⌝ }
+    ensures scripts { λ _. ⌜ Scripts-placed ⌝ }
+{
+    0
+}
+
+/// Both hold of every part of a script, at the site where it stands and with what follows it.
+pub fn parts_are_good() -> u8
+    ensures good { λ _. ⌜ Part-good ⌝ }
+    ensures derives { λ _. ⌜ Part-derives ⌝ }
+{
+    0
+}
+
+/// A reading has at most one record more than tokens, and nests at most as deep as it has records: fewer than 512 tokens never nest
+/// deeper than 512.
+pub fn sizes_law() -> u8
+    ensures { λ _. ⌜ Sizes-bounded ⌝ }
 {
     0
 }

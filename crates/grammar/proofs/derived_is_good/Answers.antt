@@ -1,4 +1,3 @@
-use borrow.Author.Needs.{needs}
 use Rattle.grammar.proofs.«derived_is_good».Needs as need
 use Rattle.grammar.proofs.Exact.{derived-good}
 

@@ -1,4 +1,3 @@
-use borrow.Author.Needs.{needs}
 use Rattle.grammar.proofs.«reader_is_exact».Needs as need
 use Rattle.grammar.proofs.Exact.{read-derives}
 

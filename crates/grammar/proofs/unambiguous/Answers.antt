@@ -1,4 +1,3 @@
-use borrow.Author.Needs.{needs}
 use Rattle.grammar.proofs.unambiguous.Needs as need
 use Rattle.grammar.proofs.Exact.{unambiguous}
 
