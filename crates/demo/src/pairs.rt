@@ -26,7 +26,10 @@ fn pairs_round(tokens: &[Token], i: usize, moves: &mut Vec<Move>) -> Result<(), 
         if k > i || !is_pair(tokens, i - k, i.saturating_add(k)) {
             break;
         }
-        moves.push(Move { from: place_at(tokens, i - k, i.saturating_add(k)), to })?;
+        moves.push(Move {
+            from: place_at(tokens, i - k, i.saturating_add(k)),
+            to,
+        })?;
     }
     Ok(())
 }
@@ -42,7 +45,10 @@ fn place_at(tokens: &[Token], first: usize, last: usize) -> Place {
 /// Whether two tokens are the parentheses of a pair, and not of arguments, parameters or a statement's head.
 fn is_pair(tokens: &[Token], first: usize, last: usize) -> bool {
     let begins = first == 0 || before_operand(tokens.get(first.saturating_sub(1)).copied());
-    let arrow = is_punctuator(tokens.get(last.saturating_add(1)).copied(), Punctuator::Arrow);
+    let arrow = is_punctuator(
+        tokens.get(last.saturating_add(1)).copied(),
+        Punctuator::Arrow,
+    );
     is_punctuator(tokens.get(first).copied(), Punctuator::OpenParen)
         && is_punctuator(tokens.get(last).copied(), Punctuator::CloseParen)
         && begins
@@ -62,7 +68,17 @@ fn before_operand(token: Option<Token>) -> bool {
         Some(token) => match token.code {
             Code::Operator(_) | Code::AssignOperator(_) => true,
             Code::Punctuator(sign) => opens_operand(sign),
-            Code::Word(word) => matches!(word, Word::Typeof | Word::Void | Word::Delete | Word::In | Word::Instanceof | Word::Return | Word::Await | Word::Yield),
+            Code::Word(word) => matches!(
+                word,
+                Word::Typeof
+                    | Word::Void
+                    | Word::Delete
+                    | Word::In
+                    | Word::Instanceof
+                    | Word::Return
+                    | Word::Await
+                    | Word::Yield
+            ),
             Code::Name | Code::Number | Code::String => false,
         },
         None => false,

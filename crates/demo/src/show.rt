@@ -20,7 +20,9 @@ pub struct Shown<'a> {
 impl<'a> Shown<'a> {
     /// Behind the last offset of the text.
     pub fn end(self) -> u32 {
-        u32::try_from(self.text.len()).unwrap_or(u32::MAX).saturating_add(1)
+        u32::try_from(self.text.len())
+            .unwrap_or(u32::MAX)
+            .saturating_add(1)
     }
 
     /// What a comment says, by its number.
@@ -54,7 +56,13 @@ fn show_token(rt: &LibcRuntime, text: &str, token: Token) -> io::Result<()> {
         Code::Operator(_) => "operator",
         Code::AssignOperator(_) => "assigning operator",
     };
-    let spelled = part(text, Place { lo: token.lo, hi: token.hi });
+    let spelled = part(
+        text,
+        Place {
+            lo: token.lo,
+            hi: token.hi,
+        },
+    );
     println!(rt, "   {} to {}: {sort} {spelled}", token.lo, token.hi)
 }
 
@@ -63,13 +71,29 @@ fn show_comment(rt: &LibcRuntime, text: &str, comment: Comment) -> io::Result<()
         Side::Leading => "leads",
         Side::Trailing => "trails",
     };
-    println!(rt, "   comment {}, {}, {verb} offset {}", comment.number, part(text, comment.text), comment.offset)
+    println!(
+        rt,
+        "   comment {}, {}, {verb} offset {}",
+        comment.number,
+        part(text, comment.text),
+        comment.offset
+    )
 }
 
 pub fn show_fault(rt: &LibcRuntime, text: &str, fault: Fault) -> io::Result<()> {
     match fault {
-        Fault::Unknown(at) => println!(rt, "   {} to {}: {} is no token. Once more:", at.lo, at.hi, part(text, at)),
-        Fault::Unclosed(at) => println!(rt, "   {} to {}: this comment has no end. Once more:", at.lo, at.hi),
+        Fault::Unknown(at) => println!(
+            rt,
+            "   {} to {}: {} is no token. Once more:",
+            at.lo,
+            at.hi,
+            part(text, at)
+        ),
+        Fault::Unclosed(at) => println!(
+            rt,
+            "   {} to {}: this comment has no end. Once more:",
+            at.lo, at.hi
+        ),
         Fault::NoMemory => println!(rt, "   There is no memory for it. Once more:"),
     }
 }
@@ -79,13 +103,21 @@ fn part(text: &str, at: Place) -> &str {
     text.get(at.lo as usize..at.hi as usize).unwrap_or("")
 }
 
-pub fn show_answer(rt: &LibcRuntime, store: &str, comment: u32, answer: Result<(), Refusal>) -> io::Result<()> {
+pub fn show_answer(
+    rt: &LibcRuntime,
+    store: &str,
+    comment: u32,
+    answer: Result<(), Refusal>,
+) -> io::Result<()> {
     match answer {
         Ok(()) => println!(rt, "   {store}: comment {comment} is in."),
         Err(refusal) => {
             let number = refusal.number();
             let value = refusal.value();
-            println!(rt, "   {store}: comment {comment} is refused by {number}, records needed: {value}.")
+            println!(
+                rt,
+                "   {store}: comment {comment} is refused by {number}, records needed: {value}."
+            )
         }
     }
 }
@@ -93,11 +125,20 @@ pub fn show_answer(rt: &LibcRuntime, store: &str, comment: u32, answer: Result<(
 pub fn show_move(rt: &LibcRuntime, m: &Move) -> io::Result<()> {
     let from = m.from;
     let to = m.to;
-    println!(rt, "   from the pair at {} to {} to what stands at {} to {}", from.lo, from.hi, to.lo, to.hi)
+    println!(
+        rt,
+        "   from the pair at {} to {} to what stands at {} to {}",
+        from.lo, from.hi, to.lo, to.hi
+    )
 }
 
 /// Prints every list of a store that is not empty, at the offsets of the rule.
-pub fn show_lists<S: Store>(rt: &LibcRuntime, name: &str, store: &S, shown: Shown) -> io::Result<()> {
+pub fn show_lists<S: Store>(
+    rt: &LibcRuntime,
+    name: &str,
+    store: &S,
+    shown: Shown,
+) -> io::Result<()> {
     for offset in 0..shown.end() {
         show_list(rt, name, store, shown, Side::Leading, offset)?;
         show_list(rt, name, store, shown, Side::Trailing, offset)?;
@@ -105,7 +146,14 @@ pub fn show_lists<S: Store>(rt: &LibcRuntime, name: &str, store: &S, shown: Show
     Ok(())
 }
 
-fn show_list<S: Store>(rt: &LibcRuntime, name: &str, store: &S, shown: Shown, side: Side, offset: u32) -> io::Result<()> {
+fn show_list<S: Store>(
+    rt: &LibcRuntime,
+    name: &str,
+    store: &S,
+    shown: Shown,
+    side: Side,
+    offset: u32,
+) -> io::Result<()> {
     let count = store.count(side, offset);
     if count == 0 {
         return Ok(());

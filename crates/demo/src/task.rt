@@ -42,7 +42,10 @@ pub fn play(rt: &LibcRuntime) -> io::Result<()> {
 
 fn carry_comments<'x>(rt: &LibcRuntime, text: &'x str, rule: &'x Rule) -> io::Result<()> {
     println!(rt, "2. Its tokens and comments, with their places:")?;
-    let shown = Shown { text, comments: rule.comments.as_slice() };
+    let shown = Shown {
+        text,
+        comments: rule.comments.as_slice(),
+    };
     show_rule(rt, shown, rule.tokens.as_slice())?;
     let heap = rt.alloc();
     let moves = moves_of(heap, rule.tokens.as_slice())?;
@@ -60,7 +63,12 @@ fn carry_comments<'x>(rt: &LibcRuntime, text: &'x str, rule: &'x Rule) -> io::Re
     overfill(rt, shown, &mut spliced, &mut register)
 }
 
-fn fill_both(rt: &LibcRuntime, shown: Shown, spliced: &mut Spliced, register: &mut Register) -> io::Result<()> {
+fn fill_both(
+    rt: &LibcRuntime,
+    shown: Shown,
+    spliced: &mut Spliced,
+    register: &mut Register,
+) -> io::Result<()> {
     println!(rt, "3. Two stores with just enough room take its comments:")?;
     for comment in shown.comments.iter() {
         fill(rt, spliced, register, *comment)?;
@@ -69,7 +77,10 @@ fn fill_both(rt: &LibcRuntime, shown: Shown, spliced: &mut Spliced, register: &m
 }
 
 fn show_moves(rt: &LibcRuntime, moves: &[Move]) -> io::Result<()> {
-    println!(rt, "4. The pairs round a name go, and their comments go to the name, from the inner pair first:")?;
+    println!(
+        rt,
+        "4. The pairs round a name go, and their comments go to the name, from the inner pair first:"
+    )?;
     for m in moves {
         show_move(rt, m)?;
     }
@@ -77,25 +88,70 @@ fn show_moves(rt: &LibcRuntime, moves: &[Move]) -> io::Result<()> {
 }
 
 /// Tries one comment more than there is room for.
-fn overfill(rt: &LibcRuntime, shown: Shown, spliced: &mut Spliced, register: &mut Register) -> io::Result<()> {
-    println!(rt, "6. Both stores are full. One comment more is refused, and nothing changes:")?;
+fn overfill(
+    rt: &LibcRuntime,
+    shown: Shown,
+    spliced: &mut Spliced,
+    register: &mut Register,
+) -> io::Result<()> {
+    println!(
+        rt,
+        "6. Both stores are full. One comment more is refused, and nothing changes:"
+    )?;
     let text = Place { lo: 0, hi: 0 };
-    fill(rt, spliced, register, Comment { number: 100, text, side: Side::Trailing, offset: 0 })?;
+    fill(
+        rt,
+        spliced,
+        register,
+        Comment {
+            number: 100,
+            text,
+            side: Side::Trailing,
+            offset: 0,
+        },
+    )?;
     compare(rt, shown, spliced, register)
 }
 
 /// Puts a comment into both stores, and prints what they answer.
-fn fill(rt: &LibcRuntime, spliced: &mut Spliced, register: &mut Register, comment: Comment) -> io::Result<()> {
+fn fill(
+    rt: &LibcRuntime,
+    spliced: &mut Spliced,
+    register: &mut Register,
+    comment: Comment,
+) -> io::Result<()> {
     let number = comment.number;
-    show_answer(rt, "spliced chains", number, spliced.add(comment.side, comment.offset, number))?;
-    show_answer(rt, "register", number, register.add(comment.side, comment.offset, number))
+    show_answer(
+        rt,
+        "spliced chains",
+        number,
+        spliced.add(comment.side, comment.offset, number),
+    )?;
+    show_answer(
+        rt,
+        "register",
+        number,
+        register.add(comment.side, comment.offset, number),
+    )
 }
 
 /// Prints the lists of both stores, and whether they agree at every offset of the rule.
-fn compare(rt: &LibcRuntime, shown: Shown, spliced: &Spliced, register: &Register) -> io::Result<()> {
+fn compare(
+    rt: &LibcRuntime,
+    shown: Shown,
+    spliced: &Spliced,
+    register: &Register,
+) -> io::Result<()> {
     let end = shown.end();
     show_lists(rt, "spliced chains", spliced, shown)?;
     show_lists(rt, "register", register, shown)?;
-    let verdict = if same_lists(spliced, register, end) { "agree" } else { "do not agree" };
-    println!(rt, "   The two stores {verdict} at all offsets of the rule.")
+    let verdict = if same_lists(spliced, register, end) {
+        "agree"
+    } else {
+        "do not agree"
+    };
+    println!(
+        rt,
+        "   The two stores {verdict} at all offsets of the rule."
+    )
 }

@@ -47,15 +47,27 @@ impl<T: Drop> From<Refused<T>> for Fault as FaultFromRefused {
 
 /// Reads the words of a rule. What stands from a word `/*` to a word `*/` is a comment.
 pub fn read_words(heap: Global, text: &str) -> Result<Rule, Fault> {
-    let mut rule = Rule { tokens: Vec::new(heap), comments: Vec::new(heap) };
+    let mut rule = Rule {
+        tokens: Vec::new(heap),
+        comments: Vec::new(heap),
+    };
     let mut open: Option<Place> = None;
     let mut lo = 0u32;
     for word in text.split(' ') {
-        let place = Place { lo, hi: lo.saturating_add(offset(word.len())) };
+        let place = Place {
+            lo,
+            hi: lo.saturating_add(offset(word.len())),
+        };
         match open {
             Some(begin) => {
                 if word == "*/" {
-                    add_comment(&mut rule, Place { lo: begin.lo, hi: place.hi })?;
+                    add_comment(
+                        &mut rule,
+                        Place {
+                            lo: begin.lo,
+                            hi: place.hi,
+                        },
+                    )?;
                     open = None;
                 }
             }
@@ -87,7 +99,13 @@ fn add_comment(rule: &mut Rule, text: Place) -> Result<(), Fault> {
         Some(token) => token.hi,
         None => 0,
     };
-    rule.comments.push(Comment { number, text, side: Side::Trailing, offset: end })?;
+    rule.comments
+        .push(Comment {
+            number,
+            text,
+            side: Side::Trailing,
+            offset: end,
+        })?;
     Ok(())
 }
 
@@ -96,7 +114,12 @@ fn add_token(rule: &mut Rule, word: &str, place: Place) -> Result<(), Fault> {
         return Err(Fault::Unknown(place));
     };
     settle(rule.comments.as_mut_slice(), place.lo);
-    rule.tokens.push(Token { code, lo: place.lo, hi: place.hi })?;
+    rule.tokens
+        .push(Token {
+            code,
+            lo: place.lo,
+            hi: place.hi,
+        })?;
     Ok(())
 }
 
@@ -110,7 +133,11 @@ fn settle(comments: &mut [Comment], lo: u32) {
 fn settled(comment: Comment, lo: u32) -> Comment {
     match comment.side {
         Side::Leading => comment,
-        Side::Trailing => Comment { side: Side::Leading, offset: lo, ..comment },
+        Side::Trailing => Comment {
+            side: Side::Leading,
+            offset: lo,
+            ..comment
+        },
     }
 }
 
