@@ -121,17 +121,17 @@ from-var-in {t} {ks} {r} d =
 not-valued : (s : Sort) → T (eqb 0 (sortRank s)) → eqb 5 (sortRank s) ≡ false
 not-valued s h = is-false _ (by-sort (λ s. eqb 0 (sortRank s)) (λ s. not (eqb 5 (sortRank s))) tt s h)
 
-from-name : {u : Tree} {us : Forest} {ks js r : List Token} {h0 h : ℕ} → Derives plainName u ks js → Follows false (names (attrs us) false) us js r (headOf u .hi) h → Follows false (varOf (attrs (u ▸ us))) (u ▸ us) ks r h0 h
+pub from-name : {z : Bool} {u : Tree} {us : Forest} {ks js r : List Token} {h0 h : ℕ} → Derives plainName u ks js → Follows z (names (attrs us) false) us js r (headOf u .hi) h → Follows z (varOf (attrs (u ▸ us))) (u ▸ us) ks r h0 h
 unfolding attrs
-from-name {u} {us} {ks} {js} {r} {h0} {h} a d =
+from-name {z} {u} {us} {ks} {js} {r} {h0} {h} a d =
     let e : isSort valued (attr u) ≡ false = not-valued (attr u .sort) (and-l (isExpression (attr u)) _ (derives-good a .0)) in
-    subst (λ (b : Bool). Follows false (cond b (kid false valuedName (tok equals (names (attrs us) true))) (kid false plainName (names (attrs us) false))) (u ▸ us) ks r h0 h) (sym e) (d-kid a d)
+    subst (λ (x : Bool). Follows z (cond x (kid false valuedName (tok equals (names (attrs us) true))) (kid false plainName (names (attrs us) false))) (u ▸ us) ks r h0 h) (sym e) (d-kid a d)
 
-from-value : {u v : Tree} {us : Forest} {ks js ls r : List Token} {l i h0 h : ℕ} → Derives valuedName u ks (token equals l i ∷ js) → Derives (at slot.Assignment) v js ls → Follows false (names (attrs us) false) us ls r (headOf v .hi) h → Follows false (varOf (attrs (u ▸ (v ▸ us)))) (u ▸ (v ▸ us)) ks r h0 h
+pub from-value : {z : Bool} {u v : Tree} {us : Forest} {ks js ls r : List Token} {l i h0 h : ℕ} → Derives valuedName u ks (token equals l i ∷ js) → Derives (at slot.Assignment) v js ls → Follows z (names (attrs us) false) us ls r (headOf v .hi) h → Follows z (varOf (attrs (u ▸ (v ▸ us)))) (u ▸ (v ▸ us)) ks r h0 h
 unfolding attrs
-from-value {u} {v} {us} {ks} {js} {ls} {r} {l} {i} {h0} {h} a b d =
+from-value {z} {u} {v} {us} {ks} {js} {ls} {r} {l} {i} {h0} {h} a b d =
     let e : isSort valued (attr u) ≡ true = is-true _ (derives-good a .0) in
-    subst (λ (x : Bool). Follows false (cond x (kid false valuedName (tok equals (names (attr v ∷ attrs us) true))) (kid false plainName (names (attr v ∷ attrs us) false))) (u ▸ (v ▸ us)) ks r h0 h) (sym e) (d-kid a (d-tok (d-kid b d)))
+    subst (λ (x : Bool). Follows z (cond x (kid false valuedName (tok equals (names (attr v ∷ attrs us) true))) (kid false plainName (names (attr v ∷ attrs us) false))) (u ▸ (v ▸ us)) ks r h0 h) (sym e) (d-kid a (d-tok (d-kid b d)))
 
 child-fits : {p : Slot} {t : Tree} {ks r : List Token} → Derives (at p) t ks r → T (fits p (attr t .standing))
 child-fits {p} {t} d = let (f, g, w) = derives-good d in and-r (isExpression (attr t)) _ f
@@ -277,15 +277,20 @@ pub lists : Lists
 unfolding attrs
 lists = record {
   no-arguments = d-tok (d-tok d-end);
+  arguments = λ d. d-tok d;
   first-argument = λ a d. d-kid a d;
   next-argument = λ a d. d-tok (d-kid a d);
   last-argument = d-tok d-end;
+  no-element = d-tok d-end;
   first-element = λ a d. d-kid a d;
   next-element = λ a d. d-tok (d-kid a d);
   last-element = d-tok d-end;
+  no-property = d-tok d-end;
   first-property = λ a d. d-kid a d;
   next-property = λ a d. d-tok (d-kid a d);
   last-property = d-tok d-end;
+  next-in-sequence = λ a d. d-tok (d-kid a d);
+  last-in-sequence = d-end;
   next-statement = λ a d. d-kid a d;
   no-statement = d-tok d-end;
   next-script-statement = λ a d. d-kid a d;

@@ -18,6 +18,8 @@ pub mod CoreParts
 pub mod CoreForm
 pub mod CoreGood
 pub mod Document
+pub mod Contexts
+pub mod Assembled
 pub mod Shut
 pub mod Places
 pub mod Sizes

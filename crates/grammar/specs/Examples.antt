@@ -191,6 +191,36 @@ examples =
     ∷ gives (openParen ∷ openBrace ∷ openBracket ∷ code.Name ∷ closeBracket ∷ colon ∷ code.Name ∷ comma ∷ code.String ∷ colon ∷ code.Number ∷ closeBrace ∷ closeParen ∷ semicolon ∷ []) (some (rec form.Script 1 134 ((rec form.ExprStmt 1 134 ((rec form.Paren 1 124 ((rec form.Object 11 114 ((rec (form.Prop key.Computed) 21 64 ((rec (form.Name binding.Plain) 31 34 nil) ▸ (rec (form.Name binding.Plain) 61 64 nil) ▸ nil)) ▸ (rec (form.Prop key.Fixed) 81 104 ((rec form.Str 81 84 nil) ▸ (rec form.Num 101 104 nil) ▸ nil)) ▸ nil)) ▸ nil)) ▸ nil)) ▸ nil)))
     -- a
     ∷ gives (code.Name ∷ []) none
+    -- if ( a ) return b ; else c ;
+    ∷ gives ((code.Word word.If) ∷ openParen ∷ code.Name ∷ closeParen ∷ (code.Word word.Return) ∷ code.Name ∷ semicolon ∷ (code.Word word.Else) ∷ code.Name ∷ semicolon ∷ []) (some (rec form.Script 1 94 ((rec form.If 1 94 ((rec (form.Name binding.Plain) 21 24 nil) ▸ (rec form.Return 41 64 ((rec (form.Name binding.Plain) 51 54 nil) ▸ nil)) ▸ (rec form.ExprStmt 81 94 ((rec (form.Name binding.Plain) 81 84 nil) ▸ nil)) ▸ nil)) ▸ nil)))
+    -- if ( a ) var b ; else ;
+    ∷ gives ((code.Word word.If) ∷ openParen ∷ code.Name ∷ closeParen ∷ (code.Word word.Var) ∷ code.Name ∷ semicolon ∷ (code.Word word.Else) ∷ semicolon ∷ []) (some (rec form.Script 1 84 ((rec form.If 1 84 ((rec (form.Name binding.Plain) 21 24 nil) ▸ (rec form.Var 41 64 ((rec (form.Name binding.Plain) 51 54 nil) ▸ nil)) ▸ (rec form.Empty 81 84 nil) ▸ nil)) ▸ nil)))
+    -- if ( a ) while ( b ) ; else ;
+    ∷ gives ((code.Word word.If) ∷ openParen ∷ code.Name ∷ closeParen ∷ (code.Word word.While) ∷ openParen ∷ code.Name ∷ closeParen ∷ semicolon ∷ (code.Word word.Else) ∷ semicolon ∷ []) (some (rec form.Script 1 104 ((rec form.If 1 104 ((rec (form.Name binding.Plain) 21 24 nil) ▸ (rec form.While 41 84 ((rec (form.Name binding.Plain) 61 64 nil) ▸ (rec form.Empty 81 84 nil) ▸ nil)) ▸ (rec form.Empty 101 104 nil) ▸ nil)) ▸ nil)))
+    -- if ( a ) b : ; else ;
+    ∷ gives ((code.Word word.If) ∷ openParen ∷ code.Name ∷ closeParen ∷ code.Name ∷ colon ∷ semicolon ∷ (code.Word word.Else) ∷ semicolon ∷ []) (some (rec form.Script 1 84 ((rec form.If 1 84 ((rec (form.Name binding.Plain) 21 24 nil) ▸ (rec form.Labeled 41 64 ((rec (form.Name binding.Plain) 41 44 nil) ▸ (rec form.Empty 61 64 nil) ▸ nil)) ▸ (rec form.Empty 81 84 nil) ▸ nil)) ▸ nil)))
+    -- if ( a ) for ( ; ; ) ; else ;
+    ∷ gives ((code.Word word.If) ∷ openParen ∷ code.Name ∷ closeParen ∷ (code.Word word.For) ∷ openParen ∷ semicolon ∷ semicolon ∷ closeParen ∷ semicolon ∷ (code.Word word.Else) ∷ semicolon ∷ []) (some (rec form.Script 1 114 ((rec form.If 1 114 ((rec (form.Name binding.Plain) 21 24 nil) ▸ (rec (form.For false false false) 41 94 ((rec form.Empty 91 94 nil) ▸ nil)) ▸ (rec form.Empty 111 114 nil) ▸ nil)) ▸ nil)))
+    -- if ( a ) for ( b in c ) ; else ;
+    ∷ gives ((code.Word word.If) ∷ openParen ∷ code.Name ∷ closeParen ∷ (code.Word word.For) ∷ openParen ∷ code.Name ∷ (code.Word word.In) ∷ code.Name ∷ closeParen ∷ semicolon ∷ (code.Word word.Else) ∷ semicolon ∷ []) (some (rec form.Script 1 124 ((rec form.If 1 124 ((rec (form.Name binding.Plain) 21 24 nil) ▸ (rec form.ForIn 41 104 ((rec (form.Name binding.Plain) 61 64 nil) ▸ (rec (form.Name binding.Plain) 81 84 nil) ▸ (rec form.Empty 101 104 nil) ▸ nil)) ▸ (rec form.Empty 121 124 nil) ▸ nil)) ▸ nil)))
+    -- if ( a ) { } else ;
+    ∷ gives ((code.Word word.If) ∷ openParen ∷ code.Name ∷ closeParen ∷ openBrace ∷ closeBrace ∷ (code.Word word.Else) ∷ semicolon ∷ []) (some (rec form.Script 1 74 ((rec form.If 1 74 ((rec (form.Name binding.Plain) 21 24 nil) ▸ (rec form.Block 41 54 nil) ▸ (rec form.Empty 71 74 nil) ▸ nil)) ▸ nil)))
+    -- if ( a ) ; else ;
+    ∷ gives ((code.Word word.If) ∷ openParen ∷ code.Name ∷ closeParen ∷ semicolon ∷ (code.Word word.Else) ∷ semicolon ∷ []) (some (rec form.Script 1 64 ((rec form.If 1 64 ((rec (form.Name binding.Plain) 21 24 nil) ▸ (rec form.Empty 41 44 nil) ▸ (rec form.Empty 61 64 nil) ▸ nil)) ▸ nil)))
+    -- for ( a instanceof b ; ; ) ;
+    ∷ gives ((code.Word word.For) ∷ openParen ∷ code.Name ∷ (code.Word word.Instanceof) ∷ code.Name ∷ semicolon ∷ semicolon ∷ closeParen ∷ semicolon ∷ []) (some (rec form.Script 1 84 ((rec (form.For true false false) 1 84 ((rec (form.Bin binary.Instanceof) 21 44 ((rec (form.Name binding.Plain) 21 24 nil) ▸ (rec (form.Name binding.Plain) 41 44 nil) ▸ nil)) ▸ (rec form.Empty 81 84 nil) ▸ nil)) ▸ nil)))
+    -- for ( var a , b = 1 ; ; ) ;
+    ∷ gives ((code.Word word.For) ∷ openParen ∷ (code.Word word.Var) ∷ code.Name ∷ comma ∷ code.Name ∷ equals ∷ code.Number ∷ semicolon ∷ semicolon ∷ closeParen ∷ semicolon ∷ []) (some (rec form.Script 1 114 ((rec (form.For true false false) 1 114 ((rec form.Var 21 74 ((rec (form.Name binding.Plain) 31 34 nil) ▸ (rec (form.Name binding.Valued) 51 54 nil) ▸ (rec form.Num 71 74 nil) ▸ nil)) ▸ (rec form.Empty 111 114 nil) ▸ nil)) ▸ nil)))
+    -- for ( var a , b in c ) ;
+    ∷ gives ((code.Word word.For) ∷ openParen ∷ (code.Word word.Var) ∷ code.Name ∷ comma ∷ code.Name ∷ (code.Word word.In) ∷ code.Name ∷ closeParen ∷ semicolon ∷ []) none
+    -- 1 : a ;
+    ∷ gives (code.Number ∷ colon ∷ code.Name ∷ semicolon ∷ []) none
+    -- ( { [ a , b ] : c } ) ;
+    ∷ gives (openParen ∷ openBrace ∷ openBracket ∷ code.Name ∷ comma ∷ code.Name ∷ closeBracket ∷ colon ∷ code.Name ∷ closeBrace ∷ closeParen ∷ semicolon ∷ []) none
+    -- for ( a , b in c ) ;
+    ∷ gives ((code.Word word.For) ∷ openParen ∷ code.Name ∷ comma ∷ code.Name ∷ (code.Word word.In) ∷ code.Name ∷ closeParen ∷ semicolon ∷ []) none
+    -- ++ ( a + b ) ;
+    ∷ gives ((code.Operator operator.Increment) ∷ openParen ∷ code.Name ∷ (code.Operator operator.Plus) ∷ code.Name ∷ closeParen ∷ semicolon ∷ []) none
     ∷ []
 
 abbrev pub Examples-hold : Type 0

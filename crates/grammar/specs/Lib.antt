@@ -12,3 +12,4 @@ pub mod Examples
 pub mod Core
 pub mod Rewriting
 pub mod Productions
+pub mod Contexts

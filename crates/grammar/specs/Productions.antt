@@ -138,6 +138,7 @@ Script t ks r = Derives root t ks r
 abbrev pub NoInExpression : Tree → List Token → List Token → Type 0
 NoInExpression t ks r = Derives init t ks r
 
+-- The left side of a ForIn that is no Var: SimpleTarget again, under the name that the document's production suggests.
 abbrev pub ForInTarget : Tree → List Token → List Token → Type 0
 ForInTarget t ks r = Derives (at slot.Target) t ks r
 
@@ -439,24 +440,34 @@ pub record Productions : Type 0 where
 pub record Lists : Type 0 where
   -- Arguments : ( )
   pub no-arguments : {r : List Token} {l h l2 h0 h2 : ℕ} → ArgumentList nil (token openParen l h ∷ (token closeParen l2 h2 ∷ r)) r h0 h2
+  -- Arguments : ( ArgumentList )
+  pub arguments : {u : Tree} {us : Forest} {ks r : List Token} {l i h0 h : ℕ} → List-of (listed (at slot.Assignment) (attrs (u ▸ us)) (tok closeParen end)) (u ▸ us) ks r i h → ArgumentList (u ▸ us) (token openParen l i ∷ ks) r h0 h
   -- ArgumentList : AssignmentExpression
   pub first-argument : {u : Tree} {us : Forest} {ks js r : List Token} {h0 h : ℕ} → AssignmentExpression u ks js → List-of (commas true (at slot.Assignment) (attrs us) (tok closeParen end)) us js r (headOf u .hi) h → List-of (listed (at slot.Assignment) (attrs (u ▸ us)) (tok closeParen end)) (u ▸ us) ks r h0 h
   -- ArgumentList : ArgumentList , AssignmentExpression
   pub next-argument : {u : Tree} {us : Forest} {ks js r : List Token} {l i h0 h : ℕ} → AssignmentExpression u ks js → List-of (commas true (at slot.Assignment) (attrs us) (tok closeParen end)) us js r (headOf u .hi) h → List-of (commas true (at slot.Assignment) (attrs (u ▸ us)) (tok closeParen end)) (u ▸ us) (token comma l i ∷ ks) r h0 h
   -- the list is over
   pub last-argument : {r : List Token} {l h h0 : ℕ} → List-of (commas true (at slot.Assignment) [] (tok closeParen end)) nil (token closeParen l h ∷ r) r h0 h
+  -- ArrayLiteral : [ ]
+  pub no-element : {r : List Token} {l h h0 : ℕ} → Elements nil (token closeBracket l h ∷ r) r h0 h
   -- ElementList : AssignmentExpression
   pub first-element : {u : Tree} {us : Forest} {ks js r : List Token} {h0 h : ℕ} → AssignmentExpression u ks js → List-of (commas true (at slot.Assignment) (attrs us) (tok closeBracket end)) us js r (headOf u .hi) h → List-of (listed (at slot.Assignment) (attrs (u ▸ us)) (tok closeBracket end)) (u ▸ us) ks r h0 h
   -- ElementList : ElementList , AssignmentExpression
   pub next-element : {u : Tree} {us : Forest} {ks js r : List Token} {l i h0 h : ℕ} → AssignmentExpression u ks js → List-of (commas true (at slot.Assignment) (attrs us) (tok closeBracket end)) us js r (headOf u .hi) h → List-of (commas true (at slot.Assignment) (attrs (u ▸ us)) (tok closeBracket end)) (u ▸ us) (token comma l i ∷ ks) r h0 h
   -- the list is over
   pub last-element : {r : List Token} {l h h0 : ℕ} → List-of (commas true (at slot.Assignment) [] (tok closeBracket end)) nil (token closeBracket l h ∷ r) r h0 h
+  -- ObjectLiteral : { }
+  pub no-property : {r : List Token} {l h h0 : ℕ} → Properties nil (token closeBrace l h ∷ r) r h0 h
   -- PropertyDefinitionList : PropertyDefinition
   pub first-property : {u : Tree} {us : Forest} {ks js r : List Token} {h0 h : ℕ} → PropertyDefinition u ks js → List-of (commas true prop (attrs us) (tok closeBrace end)) us js r (headOf u .hi) h → List-of (listed prop (attrs (u ▸ us)) (tok closeBrace end)) (u ▸ us) ks r h0 h
   -- PropertyDefinitionList : PropertyDefinitionList , PropertyDefinition
   pub next-property : {u : Tree} {us : Forest} {ks js r : List Token} {l i h0 h : ℕ} → PropertyDefinition u ks js → List-of (commas true prop (attrs us) (tok closeBrace end)) us js r (headOf u .hi) h → List-of (commas true prop (attrs (u ▸ us)) (tok closeBrace end)) (u ▸ us) (token comma l i ∷ ks) r h0 h
   -- the list is over
   pub last-property : {r : List Token} {l h h0 : ℕ} → List-of (commas true prop [] (tok closeBrace end)) nil (token closeBrace l h ∷ r) r h0 h
+  -- Expression : Expression , AssignmentExpression, from the third element on
+  pub next-in-sequence : {u : Tree} {us : Forest} {ks js r : List Token} {l i h0 h : ℕ} → AssignmentExpression u ks js → MoreElements us js r (headOf u .hi) h → MoreElements (u ▸ us) (token comma l i ∷ ks) r h0 h
+  -- the sequence is over
+  pub last-in-sequence : {r : List Token} {h : ℕ} → MoreElements nil r r h h
   -- StatementList : StatementList StatementListItem
   pub next-statement : {u : Tree} {us : Forest} {ks js r : List Token} {h0 h : ℕ} → Statement u ks js → StatementsToBrace us js r (headOf u .hi) h → StatementsToBrace (u ▸ us) ks r h0 h
   -- { } closes a Block

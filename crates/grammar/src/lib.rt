@@ -2,6 +2,7 @@
 
 ghost use Rattle.grammar.specs.Rewriting.{Core-law, Good-full};
 ghost use Rattle.grammar.specs.Productions.{Units, Productions, Lists};
+ghost use Rattle.grammar.specs.Contexts.{Lookaheads, BeforeElse, WithoutIn};
 ghost use Rattle.grammar.specs.Examples.{Examples-hold, Cores-hold};
 ghost use Rattle.grammar.specs.Claim.{Unambiguous, Read-derives, Derived-good, Good-derives, Part-good, Part-derives, Parts-placed, Scripts-placed, Sizes-bounded};
 
@@ -60,6 +61,9 @@ pub fn productions_hold() -> u8
     ensures units { λ _. ⌜ Units ⌝ }
     ensures productions { λ _. ⌜ Productions ⌝ }
     ensures lists { λ _. ⌜ Lists ⌝ }
+    ensures lookaheads { λ _. ⌜ Lookaheads ⌝ }
+    ensures before_else { λ _. ⌜ BeforeElse ⌝ }
+    ensures without_in { λ _. ⌜ WithoutIn ⌝ }
 {
     0
 }

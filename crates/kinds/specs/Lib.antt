@@ -1,3 +1,4 @@
 -- What the contracts of this crate cite.
 pub mod Kinds
 pub mod Levels
+pub mod Tables

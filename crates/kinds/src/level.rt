@@ -3,6 +3,7 @@
 ghost use mathlib.Core.Path.{_≡_};
 ghost use mathlib.Core.Bool.{Bool};
 ghost use Rattle.kinds.specs.Levels.{formLevel, binaryLevel, classOf, targetOf, standing, fits, leftSlot, rightSlot};
+ghost use Rattle.kinds.specs.Tables.{Tables-agree};
 use crate::form::Arguments;
 use crate::form::Binding;
 use crate::form::Form;
@@ -120,7 +121,8 @@ pub fn level(form: Form) -> u8
     }
 }
 
-/// The class of an expression of level 16, told whether its first child is of the class C; looser ones have none.
+/// The class of an expression of level 16, told whether its first child is of the class C; looser ones have none. It is asked of expressions
+/// only: any other form counts as level 16, so its answer is `Some(Class::M)` and means nothing.
 pub fn class_of(form: Form, over_call: bool) -> Option<Class>
     ensures { λ r. ⌜ r ≡ classOf form «over_call» ⌝ }
 {
@@ -145,7 +147,8 @@ pub fn target(form: Form, over_target: bool) -> bool
     }
 }
 
-/// Whether an expression may stand bare in a slot, told whether its first child is of the class C, and a target.
+/// Whether an expression may stand bare in a slot, told whether its first child is of the class C, and a target. It is asked of expressions
+/// only: any other form counts as level 16 and class M, so it seems to fit most slots.
 pub fn fits(slot: Slot, form: Form, over_call: bool, over_target: bool) -> bool
     ensures { λ r. ⌜ r ≡ fits slot (standing form «over_call» «over_target») ⌝ }
 {
@@ -222,4 +225,11 @@ pub fn right_slot(op: BinaryOperator) -> Slot
         (_, 11) => Slot::Multiplicative,
         (_, _) => Slot::Exponentiation,
     }
+}
+
+/// The tables by which levels, classes and targets are answered agree with the standings that the grammar is stated with.
+pub fn tables_agree() -> u8
+    ensures { λ _. ⌜ Tables-agree ⌝ }
+{
+    0
 }
