@@ -1,0 +1,15 @@
+pub mod Tests
+pub mod Fills
+pub mod Laws
+pub mod Steps
+pub mod Lists
+pub mod Balance
+pub mod First
+pub mod Expressions
+pub mod Suffixes
+pub mod Statements
+pub mod Declarations
+pub mod Every
+pub mod Shapes
+pub mod Exact
+pub mod Worked
