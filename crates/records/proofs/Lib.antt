@@ -1,0 +1,4 @@
+pub mod AtSlots
+pub mod Frame
+pub mod Pigeon
+pub mod Steps

@@ -1,0 +1,4 @@
+-- What the contracts of this crate cite.
+pub mod Record
+pub mod Siblings
+pub mod Formed

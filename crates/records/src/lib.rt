@@ -1,0 +1,15 @@
+// The records of trees: what a record holds, what a slot stands for, and how records are drawn and given back.
+
+mod give_back;
+mod record;
+mod slots;
+
+pub use give_back::give_back_tree;
+pub use record::Mark;
+pub use record::Record;
+pub use record::RecordLink;
+pub use slots::draw;
+pub use slots::look;
+pub use slots::release;
+pub use slots::stamp;
+pub use slots::write;
