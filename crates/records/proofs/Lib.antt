@@ -2,3 +2,5 @@ pub mod AtSlots
 pub mod Frame
 pub mod Pigeon
 pub mod Steps
+pub mod Clearing
+pub mod Stamps

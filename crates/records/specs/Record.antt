@@ -7,11 +7,12 @@
 --   tail r         all that a record holds besides its link
 --   relinked r v   the record with the link v
 --   marked r m     the record with the mark m
+--   stamped s k m  the records with the mark m on slot k
 --
 -- Assumes nothing.
 use Prim.Native.Nat.{ℕ, _-_}
 use mathlib.Core.List.{List, map}
-use lib.ListN.{getD}
+use lib.ListN.{getD, set}
 use Rattle.kinds.specs.declared.form.Form.the-variants as form
 use Rattle.grammar.specs.Tree.{Head, head}
 use Rattle.records.specs.declared.record.Record.{Record}
@@ -39,3 +40,6 @@ relinked r v = record { form = r .form; first = r .first; next = v; lo = r .lo; 
 
 abbrev pub marked : Record → Mark → Record
 marked r m = record { form = r .form; first = r .first; next = r .next; lo = r .lo; hi = r .hi; mark = m }
+
+abbrev pub stamped : List Record → ℕ → Mark → List Record
+stamped s k m = set s (k - 1) (marked (at s k) m)

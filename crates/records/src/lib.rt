@@ -3,6 +3,7 @@
 mod give_back;
 mod record;
 mod slots;
+mod store;
 
 pub use give_back::give_back_tree;
 pub use record::Mark;
@@ -10,6 +11,8 @@ pub use record::Record;
 pub use record::RecordLink;
 pub use slots::draw;
 pub use slots::look;
+pub use slots::make;
 pub use slots::release;
 pub use slots::stamp;
 pub use slots::write;
+pub use store::Store;

@@ -4,7 +4,7 @@ ghost use mathlib.Core.List.{List};
 ghost use Prim.Native.Nat.{ℕ, _-_, _<_, _≤_};
 ghost use lib.ListN.{length, set};
 ghost use Rattle.chain.specs.Chain.{room, Slot, Chain, Off, slots-from, Beyond};
-ghost use Rattle.records.specs.Record.{at, links, vacant, marked};
+ghost use Rattle.records.specs.Record.{at, links, vacant, stamped};
 use crate::record::Mark;
 use crate::record::Record;
 use crate::record::RecordLink;
@@ -28,7 +28,7 @@ pub fn write(slots: &mut [Record], slot: u16, content: Record)
 /// Marks the record of a slot.
 pub fn stamp(slots: &mut [Record], slot: u16, mark: Mark)
     requires { ⌜ Slot (length (now slots)) slot ⌝ }
-    ensures { λ _. ⌜ now (slots .exit) ≡ set (now (slots .entry)) (slot - 1) (marked (at (now (slots .entry)) slot) mark) ⌝ }
+    ensures { λ _. ⌜ now (slots .exit) ≡ stamped (now (slots .entry)) slot mark ⌝ }
 {
     let record = look(slots, slot);
     write(slots, slot, Record { mark, ..record });
@@ -66,4 +66,17 @@ pub fn release(slots: &mut [Record], free: &mut u16, slot: u16)
             ..Record::FREE
         },
     );
+}
+
+/// Makes every record free, all of them on one chain, and answers where that chain begins.
+pub fn make(slots: &mut [Record]) -> u16
+    ensures chain { λ r. ⌜ Chain (links (now (slots .exit))) r (slots-from 1 (room (length (now (slots .entry))))) ⌝ }
+    ensures records { λ _. ⌜ ((k : ℕ) → Slot (length (now (slots .entry))) k → at (now (slots .exit)) k ≡ vacant (at (now (slots .exit)) k .next)) ⌝ }
+    ensures beyond { λ _. ⌜ Beyond (now (slots .entry)) (now (slots .exit)) ⌝ }
+{
+    let last = chain::last_slot(slots);
+    for i in 0..last {
+        slots[i as usize] = Record::FREE;
+    }
+    chain::make(slots)
 }
