@@ -93,7 +93,7 @@ rotate s free h c d e A B R ks q r aq ar x =
 -- what a turn at a slot leaves
 abbrev pub Turned : List Record → List Record → ℕ → ℕ → Siblings → List ℕ → Type 0
 Turned s t free here g js =
-    (g′ : Siblings) × (js′ : List ℕ) × Loose t free here g′ js′ × Moved g js g′ js′ × Kept s t g js × (weight g′ < weight g) × Plain s t
+    (g′ : Siblings) × (js′ : List ℕ) × Loose t free here g′ js′ × Moved g js g′ js′ × Kept s t g js × (weight g′ < weight g) × Plain s t × (size g′ + length js′ ≡ size g + length js)
 
 pub turn-leaf :
     (s : List Record)
@@ -111,7 +111,7 @@ turn-leaf s free here (sibling h d none R) js ne z x =
     let kept : Kept s (set s (h - 1) (vacant free)) (sibling h d none R) js =
     (λ k q m. at-other s h k (vacant free) p q (λ w. let u : is k h ≡ 1 = subst (λ y. is k y ≡ 1) w (is-same k) in omega arith)) in
     subst (λ i. Turned s (set s (i - 1) (vacant free)) i (at s i .next) (sibling h d none R) js) (sym (x .0 .0))
-    (R, (h ∷ js), free-one s free h d R js x′, (λ k. omega arith), kept, omega arith, plain-write s h (vacant free) p (x .0 .2) (λ _. refl))
+    (R, (h ∷ js), free-one s free h d R js x′, (λ k. omega arith), kept, omega arith, plain-write s h (vacant free) p (x .0 .2) (λ _. refl), omega arith)
 turn-leaf s free here (sibling h d (sibling c b A B) R) js ne z x =
     let p : 0 < c = x .0 .4 .1 in
     let q : at s h .first ≡ c = x .0 .4 .0 in
@@ -157,6 +157,7 @@ turn-child s free here (sibling h d (sibling c e A B) R) js ne nz x =
       omega arith,
       (λ k w z. plain-write (set s (h - 1) (q h c)) c (r h c) pc (omega (arith, length-set s (h - 1) (q h c), x .0 .4 .2)) (λ y. (ap (λ (v : Record). v .mark) (sym (at-other s h c (q h c) p pc nch))) ∙ y) k w
           (plain-write s h (q h c) p (x .0 .2) (λ y. y) k w z)),
+      omega arith,
     ) in
     let there : Turned s (t h (at s h .first)) free (at s h .first) (sibling h d (sibling c e A B) R) js =
     subst (λ j. Turned s (t h j) free j (sibling h d (sibling c e A B) R) js) (sym (x .0 .4 .0)) done in
@@ -281,25 +282,33 @@ falls s t free free′ here here′ turn h =
     let y = turn (x .0) (x .1) (x .2) in
     omega (arith, weighed s free here (x .0) (x .1) (x .2), weighed t free′ here′ (y .0) (y .1) (y .2), y .5))
 
+-- what is left of siblings f and the free chain ks, while they are given back
+abbrev pub Left : List Record → List Record → ℕ → ℕ → Siblings → List ℕ → Type 0
+Left s t free here f ks =
+    (g : Siblings) × (js : List ℕ) × Loose t free here g js × Moved f ks g js × Kept s t f ks × Plain s t × (size g + length js ≡ size f + length ks)
+
 -- the invariant again
 pub again :
     (s₀ s t : List Record)
     (free₀ here₀ free free′ here here′ : ℕ)
     → ((g : Siblings) (js : List ℕ) → Loose s free here g js → Turned s t free′ here′ g js)
     → ∥ ((f : Siblings) × (ks : List ℕ) × Loose s free here f ks) ∥₁
-    × ((f : Siblings) (ks : List ℕ) → Loose s₀ free₀ here₀ f ks → (g : Siblings) × (js : List ℕ) × Loose s free here g js × Moved f ks g js × Kept s₀ s f ks × Plain s₀ s)
+    × ((f : Siblings) (ks : List ℕ) → Loose s₀ free₀ here₀ f ks → Left s₀ s free here f ks)
     → ∥ ((f : Siblings) × (ks : List ℕ) × Loose t free′ here′ f ks) ∥₁
-    × ((f : Siblings) (ks : List ℕ) → Loose s₀ free₀ here₀ f ks → (g : Siblings) × (js : List ℕ) × Loose t free′ here′ g js × Moved f ks g js × Kept s₀ t f ks × Plain s₀ t)
+    × ((f : Siblings) (ks : List ℕ) → Loose s₀ free₀ here₀ f ks → Left s₀ t free′ here′ f ks)
 again s₀ s t free₀ here₀ free free′ here here′ turn inv = (
   ∥∥₁-map (inv .0) (λ x. let y = turn (x .0) (x .1) (x .2) in (y .0, y .1, y .2)),
   λ f ks x.
       let a = inv .1 f ks x in
       let y = turn (a .0) (a .1) (a .2) in
       let b = turned-on s₀ s t f (a .0) (y .0) ks (a .1) (y .1) (a .3) (a .4) (y .3) (y .4) in
-      (y .0, y .1, y .2, b .0, b .1, (λ k p z. y .6 k p (a .5 k p z))),
+      (y .0, y .1, y .2, b .0, b .1, (λ k p z. y .6 k p (a .5 k p z)), omega (arith, a .6, y .7)),
 )
 
 -- and at the end
-pub ended : (s t : List Record) (free : ℕ) (f g : Siblings) (ks js : List ℕ) → Loose t free 0 g js → Moved f ks g js → Kept s t f ks → Plain s t → Given s t f ks free
-ended s t free f none ks js x m k pl = (js, x .1, m, k, pl)
-ended s t free f (sibling h d kids rest) ks js x m k pl = absurd (let a : 0 ≡ h = x .0 .0 in let b : 0 < h = x .0 .1 in omega arith)
+pub ended : (s t : List Record) (free : ℕ) (f : Siblings) (ks : List ℕ) → Left s t free 0 f ks → Given s t f ks free
+ended s t free f ks x = go (x .0) (x .1) (x .2) (x .3) (x .6)
+  where
+    go : (g : Siblings) (js : List ℕ) → Loose t free 0 g js → Moved f ks g js → size g + length js ≡ size f + length ks → Given s t f ks free
+    go none js l m e = (js, l .1, m, x .4, x .5, omega arith)
+    go (sibling h d kids rest) js l m e = absurd (let a : 0 ≡ h = l .0 .0 in let b : 0 < h = l .0 .1 in omega arith)

@@ -65,7 +65,8 @@ abbrev pub Moved : Siblings → List ℕ → Siblings → List ℕ → Type 0
 Moved f ks g js = (k : ℕ) → count k g + times k js ≡ count k f + times k ks
 
 abbrev pub Given : List Record → List Record → Siblings → List ℕ → ℕ → Type 0
-Given s t f ks free = (js : List ℕ) × Chain (links t) free js × Moved f ks none js × Kept s t f ks × Plain s t
+Given s t f ks free =
+    (js : List ℕ) × Chain (links t) free js × Moved f ks none js × Kept s t f ks × Plain s t × (length js ≡ size f + length ks)
 
 -- what is put up from free records: the siblings g, with the trees us, and every record that was not free is as it was
 abbrev pub Built : List Record → List Record → List ℕ → ℕ → ℕ → Forest → Type 0

@@ -5,8 +5,7 @@ use native.Mathlib.Omega.{arith}
 use lib.ListN.{length, length-set}
 use Rattle.chain.specs.Chain.{room}
 use Rattle.records.specs.declared.record.Record.{Record}
-use Rattle.records.specs.Siblings.{Loose}
-use Rattle.records.proofs.Steps.{alive, alive-child, head-off, leaf-turn, child-turn, falls, again, ended}
+use Rattle.records.proofs.Steps.{alive, alive-child, head-off, leaf-turn, child-turn, falls, again, ended, Left}
 use Rattle.records.proofs.give_back.give_back_tree.Needs as need
 
 pub look-parent-requires : need.look-parent-requires
@@ -62,9 +61,5 @@ loop-here-again c =
 pub returns : need.returns
 returns c =
     λ f ks x.
-    let a = c .loop-here .inv .1 f ks x in
-    ended (c .args .slots .now) (c .loop-here .slots) (c .loop-here .free) f (a .0) ks (a .1)
-    (subst (λ i. Loose (c .loop-here .slots) (c .loop-here .free) i (a .0) (a .1)) (c .loop-here-test .left) (a .2))
-    (a .3)
-    (a .4)
-    (a .5)
+    ended (c .args .slots .now) (c .loop-here .slots) (c .loop-here .free) f ks
+    (subst (λ i. Left (c .args .slots .now) (c .loop-here .slots) (c .loop-here .free) i f ks) (c .loop-here-test .left) (c .loop-here .inv .1 f ks x))
