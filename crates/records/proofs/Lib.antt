@@ -4,3 +4,4 @@ pub mod Pigeon
 pub mod Steps
 pub mod Clearing
 pub mod Stamps
+pub mod Marks

@@ -1,5 +1,6 @@
 -- Records and slots.
 --
+--   markNumber m   the number of a mark: 1, 2, 3 for the root of a loaded tree, a fixed tree, a piece; 0 else
 --   headOf r       what a record says besides its links and its mark: its form and its place
 --   vacant n       a free record that leads to n
 --   at s k         the record of slot k; slots count from 1
@@ -19,6 +20,12 @@ use Rattle.records.specs.declared.record.Record.{Record}
 use Rattle.records.specs.declared.record.Tail.{Tail}
 use Rattle.records.specs.declared.record.Mark.{Mark}
 use Rattle.records.specs.declared.record.Mark.the-variants as mark
+
+abbrev pub markNumber : Mark → ℕ
+markNumber mark.Unmarked = 0
+markNumber mark.Loaded = 1
+markNumber mark.Fixed = 2
+markNumber mark.Piece = 3
 
 abbrev pub headOf : Record → Head
 headOf r = head (r .form) (r .lo) (r .hi)

@@ -1,5 +1,6 @@
 // A record, its mark, and its place on a chain.
-ghost use Rattle.records.specs.Record.{tail, relinked};
+ghost use mathlib.Core.Path.{_≡_};
+ghost use Rattle.records.specs.Record.{tail, relinked, markNumber};
 use chain::Link;
 use kinds::Form;
 
@@ -10,6 +11,15 @@ pub enum Mark {
     Loaded,
     Fixed,
     Piece,
+}
+
+impl Mark {
+    /// 1 for the root of a loaded tree, 2 of a fixed one, 3 of a piece, 0 for every other record.
+    pub fn number(self) -> u8
+        ensures { λ r. ⌜ r ≡ markNumber self ⌝ }
+    {
+        self as u8
+    }
 }
 
 /// One record: its form (a kind with its operator), its first child and its next sibling, its place in the source text,

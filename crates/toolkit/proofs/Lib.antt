@@ -1,0 +1,4 @@
+pub mod Books
+pub mod Releasing
+pub mod Fresh
+pub mod Runs
