@@ -36,14 +36,14 @@ pub struct Returned<T> {
 
 // What a pool compares with its records: the number and the root of a tree, and the mark that its type stands for.
 #[derive(Clone, Copy)]
-pub struct Key {
+pub(crate) struct Key {
     pub pool: u16,
     pub root: u16,
     pub mark: Mark,
 }
 
 impl Tree {
-    pub fn key(&self) -> Key
+    pub(crate) fn key(&self) -> Key
         ensures { λ r. ⌜ r ≡ key (now (self .entry)) ⌝ }
     {
         match self {
@@ -61,7 +61,7 @@ impl Tree {
     }
 
     // Ends a tree whose records are about to be given back.
-    pub fn spend(self) {
+    pub(crate) fn spend(self) {
         match self {
             Tree::Loaded(Loaded { pool: _, root: _ }) => {}
             Tree::Fixed(Fixed { pool: _, root: _ }) => {}
