@@ -5,3 +5,5 @@ pub mod Steps
 pub mod Clearing
 pub mod Stamps
 pub mod Marks
+pub mod Suits
+pub mod Measures

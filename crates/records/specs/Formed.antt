@@ -5,10 +5,12 @@
 --   rooted m f     a record of the form f can be the root of a tree with the mark m: a loaded and a fixed tree are scripts, a
 --                  piece is an expression or a statement
 --   Sound m t      t has a root for its mark, is formed, and nests at most 512 deep
+--   Derived-sound  a derived tree that nests at most 512 deep is sound as a loaded tree
 --
 -- Assumes nothing.
 use Prim.Native.Nat.{ℕ, _≤_}
 use mathlib.Core.Bool.{Bool, true, false, _&&_, _||_}
+use mathlib.Core.List.{List}
 use lib.Dec.{T, eqb}
 use Rattle.kinds.specs.Kinds.{rank, kindOf}
 use Rattle.kinds.specs.declared.kind.Kind.{Kind}
@@ -18,6 +20,8 @@ use Rattle.kinds.specs.declared.form.Form.the-variants as form
 use Rattle.kinds.specs.declared.form.Sort.the-variants as hole
 use Rattle.grammar.specs.Site.{Sort, sortRank, expression, statement, block, declaration, property, valued, script, nothing, Site, at, start, body, blockOnly, stmt, closed, init, varInit, forLeft, varIn, prop, plainName, valuedName, keyName, root}
 use Rattle.grammar.specs.Layout.{Lay, end, stop, tok, kid, layout, sortOf, attrs}
+use Rattle.token.specs.declared.Token.{Token}
+use Rattle.grammar.specs.Claim.{Reads}
 use Rattle.grammar.specs.Tree.{Head, Tree, Forest, node, nil, _▸_, headOf, depth}
 use Rattle.records.specs.declared.record.Mark.{Mark}
 use Rattle.records.specs.declared.record.Mark.the-variants as mark
@@ -124,3 +128,6 @@ pub record Sound (m : Mark) (t : Tree) : Type 0 where
   pub root : T (rooted m (headOf t .form))
   pub formed : Formed t
   pub nests : depth t ≤ 512
+
+abbrev pub Derived-sound : Type 0
+Derived-sound = (ts : List Token) (t : Tree) → Reads ts t → depth t ≤ 512 → Sound mark.Loaded t

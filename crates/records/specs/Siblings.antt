@@ -3,6 +3,7 @@
 --   Siblings            a chain of siblings, each with its slot, its head and its children
 --   forest f            the same with no slots: the trees that they are
 --   size f, depth f     the number of its records, and how deep it nests
+--   Measured            siblings have as many records, and nest as deep, as their trees
 --   count k f           how often it has the slot k
 --   Holds s h f         from the slot h on the records s are the siblings f
 --   Loose s free h f ks the siblings f stand at the slot h, the free chain from `free` on is ks, and no slot is met twice
@@ -19,6 +20,7 @@ use mathlib.Core.List.{List, [], _∷_}
 use lib.ListN.{length}
 use Rattle.chain.specs.Chain.{room, Chain, is, times}
 use Rattle.grammar.specs.Tree.{Head, Forest, node, nil, _▸_}
+use Rattle.grammar.specs.Tree as trees
 use Rattle.records.specs.declared.record.Record.{Record}
 use Rattle.records.specs.declared.record.Mark.the-variants as mark
 use Rattle.records.specs.Record.{headOf, at, links}
@@ -38,6 +40,9 @@ size (sibling k d kids rest) = 1 + size kids + size rest
 abbrev pub depth : Siblings → ℕ
 depth none = 0
 depth (sibling k d kids rest) = max (1 + depth kids) (depth rest)
+
+abbrev pub Measured : Type 0
+Measured = (f : Siblings) → (trees.sizes (forest f) ≡ size f) × (trees.depths (forest f) ≡ depth f)
 
 abbrev pub count : ℕ → Siblings → ℕ
 count k none = 0
