@@ -2,3 +2,4 @@ pub mod Books
 pub mod Releasing
 pub mod Fresh
 pub mod Runs
+pub mod Raising
