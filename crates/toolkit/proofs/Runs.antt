@@ -55,12 +55,18 @@ pub times-strike-all : (k : ℕ) (gs ks : List ℕ) → times k (strike-all gs k
 times-strike-all k [] ks = omega arith
 times-strike-all k (g ∷ gs) ks = omega (arith, times-strike-all k gs (strike g ks), times-strike k g ks)
 
-pub run-accounted : {a z : State} {es : List Event} → Run a es z → Accounted a [] → Accounted z (outstanding es)
-run-accounted start h = h
-run-accounted (then {b = b} {z = z} {es = es} e r s) h =
-    let x = run-accounted r h in
-    let y = step-settles b z e s (x .0) (x .1) (x .2) in
-    (y .0, y .1, y .2, λ k. omega (arith, y .3 k .1, x .3 k, times-append k (leaves e) (strike-all (gives e) (outstanding es)), times-strike-all k (gives e) (outstanding es)))
+pub run-accounted : {a z : State} {es : List Event} (rs : List ℕ) → Run a es z → Accounted a rs → Accounted z (outstanding rs es)
+run-accounted rs start h = h
+run-accounted rs (then {b = b} {z = z} {es = es} e r s) h =
+    let x = run-accounted rs r h in
+    let y = step-settles b z e s (x .0) (x .1) (x .2) in (
+      y .0,
+      y .1,
+      y .2,
+      λ k.
+          omega (arith, y .3 k .1, x .3 k, times-append k (leaves e) (strike-all (gives e) (outstanding rs es)), times-strike-all k (gives e) (outstanding rs es)),
+    )
 
 pub always : Always-accounted
-always n s a z es fresh run = run-accounted run (fresh .ledger .0, [], fresh .ledger .1, λ k. refl)
+always =
+    record { fresh = λ n s a f. (f .ledger .0, [], f .ledger .1, λ k. refl); run = λ a z rs es h r. run-accounted rs r h }

@@ -4,7 +4,7 @@
 --   Step a e z       the event e led from the pool a to the pool z: by the call's own outcome relation
 --   Run a es z       so did the events es, the latest first, one after the other
 --   gives e          the roots that an accepted call was given; leaves e: those that it leaves. A refused call has none
---   outstanding es   the roots of the trees that are out, from the events alone
+--   outstanding rs es   the roots of the trees that are out after the events es, where rs were out before: from the events alone
 --   Accounted z rs   in z each record is found once, on the free chain or in one tree, and the trees' roots are rs
 --
 -- Assumes nothing.
@@ -54,13 +54,14 @@ abbrev pub strike-all : List ℕ → List ℕ → List ℕ
 strike-all [] js = js
 strike-all (k ∷ ks) js = strike-all ks (strike k js)
 
-abbrev pub outstanding : List Event → List ℕ
-outstanding [] = []
-outstanding (e ∷ es) = leaves e ++ strike-all (gives e) (outstanding es)
+abbrev pub outstanding : List ℕ → List Event → List ℕ
+outstanding rs [] = rs
+outstanding rs (e ∷ es) = leaves e ++ strike-all (gives e) (outstanding rs es)
 
 abbrev pub Accounted : State → List ℕ → Type 0
 Accounted z rs = (ks : List ℕ) × (ps : List Entry) × Ledger z ks ps × ((k : ℕ) → roots k ps ≡ times k rs)
 
-abbrev pub Always-accounted : Type 0
-Always-accounted =
-    (n : ℕ) (s : List Record) (a z : State) (es : List Event) → Fresh n s a → Run a es z → Accounted z (outstanding es)
+-- nothing is out of a fresh pool; and whatever was out, each list of calls leaves each record accounted for
+pub record Always-accounted : Type 0 where
+  pub fresh : (n : ℕ) (s : List Record) (a : State) → Fresh n s a → Accounted a []
+  pub run : (a z : State) (rs : List ℕ) (es : List Event) → Accounted a rs → Run a es z → Accounted z (outstanding rs es)
