@@ -7,3 +7,4 @@ pub mod Stamps
 pub mod Marks
 pub mod Suits
 pub mod Measures
+pub mod Rows

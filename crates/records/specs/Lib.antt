@@ -2,3 +2,4 @@
 pub mod Record
 pub mod Siblings
 pub mod Formed
+pub mod Building

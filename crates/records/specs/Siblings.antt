@@ -11,7 +11,6 @@
 --   Plain s t           no record is marked in t that was not in s
 --   Moved f ks g js     g and js have together the slots that f and ks have together
 --   Given s t f ks free f was given back whole: the free chain from `free` on has its records and those of ks
---   Built s t f ks free h g   the forest g of free records was put up at the slot h: what is left of ks is the chain from `free` on
 --
 -- Assumes nothing.
 use Prim.Native.Nat.{ℕ, zero, suc, _+_, _*_, _≤_, _<_, max}
@@ -72,12 +71,6 @@ Moved f ks g js = (k : ℕ) → count k g + times k js ≡ count k f + times k k
 abbrev pub Given : List Record → List Record → Siblings → List ℕ → ℕ → Type 0
 Given s t f ks free =
     (js : List ℕ) × Chain (links t) free js × Moved f ks none js × Kept s t f ks × Plain s t × (length js ≡ size f + length ks)
-
--- what is put up from free records: the siblings g, with the trees us, and every record that was not free is as it was
-abbrev pub Built : List Record → List Record → List ℕ → ℕ → ℕ → Forest → Type 0
-Built s t ks free here us =
-    (g : Siblings) × (js : List ℕ) × Loose t free here g js × (forest g ≡ us)
-    × ((k : ℕ) → count k g + times k js ≡ times k ks) × Kept s t none ks × (length ks ≡ size g + length js) × Plain s t
 
 -- what a walk finds at a slot, in so many steps down and along
 abbrev pub siblings-at : ℕ → List Record → ℕ → Siblings

@@ -1,11 +1,14 @@
 // The records of trees: what a record holds, what a slot stands for, and how records are drawn and given back.
 
+mod build;
 mod give_back;
 mod laws;
 mod record;
 mod slots;
 mod store;
 
+pub use build::append;
+pub use build::nest;
 pub use give_back::give_back_tree;
 pub use laws::derived_is_sound;
 pub use laws::records_measure_trees;

@@ -16,13 +16,15 @@ use Rattle.records.specs.declared.record.Record.{Record}
 use Rattle.records.specs.declared.record.Mark.{Mark}
 use Rattle.records.specs.declared.record.Mark.the-variants as mark
 use Rattle.records.specs.Record.{headOf, at, marked, stamped}
-use Rattle.records.specs.Siblings.{Siblings, none, sibling, forest, size, count, Holds, Loose, Kept, Built}
+use Rattle.records.specs.Siblings.{Siblings, none, sibling, forest, size, count, Holds, Loose, Kept}
+use Rattle.records.specs.Building.{Row}
 use Rattle.records.specs.Formed.{Sound}
 use Rattle.records.proofs.AtSlots.{at-same, at-other}
 use Rattle.records.proofs.Frame.{Alike, alike, frame, frame-chain}
 use Rattle.records.proofs.Stamps.{stamped-alike}
 use Rattle.records.proofs.Measures.{size-forest}
 use Rattle.records.proofs.Suits.{derived-sound}
+use Rattle.toolkit.specs.declared.trees.Key.{Key}
 use Rattle.toolkit.specs.Ledger.{State, state, Entry, siblings, tree, counts, roots, Ledger}
 use Rattle.toolkit.specs.Calls.{Raised, Loading}
 use Rattle.toolkit.proofs.Books.{at-most, roots-counts, frame-stand}
@@ -35,6 +37,10 @@ single (sibling k d A (sibling j c B C)) u e =
     let x : node c (forest B) ▸ forest C ≡ nil = cc in
     let z : _≡_ {A = ℕ} 0 1 = cc in
     absurd (omega arith)
+
+-- the key of a loaded tree of the pool
+abbrev pub loaded-key : State → ℕ → Key
+loaded-key a k = record { pool = a .number; root = k; mark = mark.Loaded }
 
 tree-size : (u : Tree) → trees.sizes (u ▸ nil) ≡ trees.size u
 unfolding trees.size trees.sizes
@@ -52,7 +58,7 @@ module _ (a : State) (t : List Record) (free root : ℕ) (u : Tree) (ks : List �
       → Kept (a .slots) t none ks
       → length ks ≡ trees.size u + length js
       → ((j : ℕ) → 0 < j → at (a .slots) j .mark ≡ mark.Unmarked → at t j .mark ≡ mark.Unmarked)
-      → (p : Entry) × (is : List ℕ) × Raised a u root (state (a .number) (stamped t root mark.Loaded) free) ks ps p is
+      → (p : Entry) × (is : List ℕ) × Raised a u (loaded-key a root) (state (a .number) (stamped t root mark.Loaded) free) ks ps p is
   entered k d A js eu h c kept len plain = (
     p,
     js,
@@ -117,16 +123,16 @@ module _ (a : State) (t : List Record) (free root : ℕ) (u : Tree) (ks : List �
           let ne : i ≢ root = λ e. let y : is i root ≡ 1 = subst (λ v. is i v ≡ 1) e (is-same i) in omega arith in
           ap (λ (r : Record). r .mark) (zo i (q .0) ne) ∙ plain i (q .0) (b .unmarked i q (omega arith))
 
-  pub raised-by : Built (a .slots) t ks free root (u ▸ nil) → (p : Entry) × (js : List ℕ) × Raised a u root (state (a .number) (stamped t root mark.Loaded) free) ks ps p js
+  pub raised-by : Row (a .slots) t ks free root root (u ▸ nil) → (p : Entry) × (js : List ℕ) × Raised a u (loaded-key a root) (state (a .number) (stamped t root mark.Loaded) free) ks ps p js
   raised-by m =
-      let x = single (m .0) u (m .3) in
-      let e : trees.size u ≡ size (m .0) = sym (tree-size u) ∙ ap trees.sizes (sym (m .3)) ∙ size-forest (m .0) in
-      entered (x .0) (x .1) (x .2) (m .1) (x .4)
-      (subst (λ g. Loose t free root g (m .1)) (x .3) (m .2))
-      (λ j. subst (λ g. count j g + times j (m .1) ≡ times j ks) (x .3) (m .4 j))
-      (m .5)
-      (omega (arith, m .6))
-      (m .7)
+      let x = single (m .siblings) u (m .trees) in
+      let e : trees.size u ≡ size (m .siblings) = sym (tree-size u) ∙ ap trees.sizes (sym (m .trees)) ∙ size-forest (m .siblings) in
+      entered (x .0) (x .1) (x .2) (m .chain) (x .4)
+      (subst (λ g. Loose t free root g (m .chain)) (x .3) (m .loose))
+      (λ j. subst (λ g. count j g + times j (m .chain) ≡ times j ks) (x .3) (m .drawn j))
+      (m .same)
+      (omega (arith, m .left))
+      (m .plain)
 
 -- so what the reader builds is what `read` promises
 pub loading :
@@ -138,19 +144,21 @@ pub loading :
     → Reads ts u
     → trees.depth u ≤ 512
     → length t ≡ length (a .slots)
-    → ((ks : List ℕ) (ps : List Entry) → Ledger a ks ps → Built (a .slots) t ks free root (u ▸ nil))
-    → Loading a ts root (state (a .number) (stamped t root mark.Loaded) free)
+    → ((ks : List ℕ) (ps : List Entry) → Ledger a ks ps → Row (a .slots) t ks free root root (u ▸ nil))
+    → Loading a ts (loaded-key a root) (state (a .number) (stamped t root mark.Loaded) free)
 loading a t free root ts u r d l built =
     record {
       tree = u;
       derived = r;
       nests = d;
+      pool = refl;
+      mark = refl;
       number = refl;
       length = length-set t (root - 1) (marked (at t root) mark.Loaded) ∙ l;
       raised = λ ks ps b. raised-by a t free root u ks ps b l (derived-sound ts u r d) (built ks ps b);
     }
 
 -- and the invariant of the pool
-pub still-accounted : (a z : State) (ts : List Token) (k : ℕ) → Loading a ts k z → ∥ ((ks : List ℕ) × (ps : List Entry) × Ledger a ks ps) ∥₁ → ∥ ((ks : List ℕ) × (ps : List Entry) × Ledger z ks ps) ∥₁
+pub still-accounted : (a z : State) (ts : List Token) (k : Key) → Loading a ts k z → ∥ ((ks : List ℕ) × (ps : List Entry) × Ledger a ks ps) ∥₁ → ∥ ((ks : List ℕ) × (ps : List Entry) × Ledger z ks ps) ∥₁
 still-accounted a z ts k m h =
     ∥∥₁-map h (λ y. let x = m .raised (y .0) (y .1) (y .2) in (x .1, x .0 ∷ y .1, x .2 .ledger))

@@ -27,10 +27,10 @@ settles-none : (a z : State) → z ≡ a → Settles a [] [] z
 settles-none a z e ks ps b = (ks, ps, subst (λ x. Ledger x ks ps) (sym e) b, λ k. (omega arith, omega arith))
 
 pub step-settles : (a z : State) (e : Event) → Step a e z → Settles a (gives e) (leaves e) z
-step-settles a z (read ts (done k)) h ks ps b =
+step-settles a z (read ts (done t)) h ks ps b =
     let x = h .raised ks ps b in
-    let r : Raised a (h .tree) k z ks ps (x .0) (x .1) = x .2 in
-    (x .1, x .0 ∷ ps, r .ledger, λ j. let e : is j (x .0 .root) ≡ is j k = ap (is j) (r .root) in (omega arith, omega arith))
+    let r : Raised a (h .tree) t z ks ps (x .0) (x .1) = x .2 in
+    (x .1, x .0 ∷ ps, r .ledger, λ j. let e : is j (x .0 .root) ≡ is j (t .root) = ap (is j) (r .root) in (omega arith, omega arith))
 step-settles a z (read ts (refused e)) h ks ps b = settles-none a z (h .1) ks ps b
 step-settles a z (unload t (done u)) h ks ps b =
     let x = h .1 .released ks ps b in

@@ -4,7 +4,7 @@
 --   Answer X          what a call answers: it is done, with what it leaves, or it is refused, and why
 --   Fresh s a         a pool just made over the records s: all records are free, and those that have no slot as they were
 --   Unload a t r z    unload of the tree t, answered r, led from the pool a to the pool z
---   Read a ts r z     read of the tokens ts, answered r, led from the pool a to the pool z
+--   Read a ts r z     read of the tokens ts, answered r (the key of the tree), led from the pool a to the pool z
 --
 -- Assumes nothing.
 use Prim.Native.Nat.{ℕ, _+_, _≤_, _<_}
@@ -72,23 +72,25 @@ abbrev pub Unload : State → Key → Answer (Unit {0}) → State → Type 0
 Unload a t (done _) z = Valid a t × Unloaded a t z
 Unload a t (refused e) z = (Valid a t → ⊥) × (e ≡ refusal.InvalidSlot (t .root)) × (z ≡ a)
 
--- the tree u, put up at the slot k from free records, where the free chain was ks and the outstanding trees were ps
-pub record Raised (a : State) (u : Tree) (k : ℕ) (z : State) (ks : List ℕ) (ps : List Entry) (p : Entry) (js : List ℕ) : Type 0 where
-  pub root : p .root ≡ k
-  pub mark : p .mark ≡ mark.Loaded
+-- the tree u, put up from free records under the key t, where the free chain was ks and the outstanding trees were ps
+pub record Raised (a : State) (u : Tree) (t : Key) (z : State) (ks : List ℕ) (ps : List Entry) (p : Entry) (js : List ℕ) : Type 0 where
+  pub root : p .root ≡ t .root
+  pub mark : p .mark ≡ t .mark
   pub tree : tree p ≡ u
   pub ledger : Ledger z js (p ∷ ps)
   pub drawn : (j : ℕ) → times j ks ≡ count j (siblings p) + times j js
   pub free : length ks ≡ size u + length js
   pub same : Kept (a .slots) (z .slots) none ks
 
-pub record Loading (a : State) (ts : List Token) (k : ℕ) (z : State) : Type 0 where
+pub record Loading (a : State) (ts : List Token) (t : Key) (z : State) : Type 0 where
   pub tree : Tree
   pub derived : Reads ts tree
   pub nests : depth tree ≤ 512
+  pub pool : t .pool ≡ a .number
+  pub mark : t .mark ≡ mark.Loaded
   pub number : z .number ≡ a .number
   pub length : length (z .slots) ≡ length (a .slots)
-  pub raised : (ks : List ℕ) (ps : List Entry) → Ledger a ks ps → (p : Entry) × (js : List ℕ) × Raised a tree k z ks ps p js
+  pub raised : (ks : List ℕ) (ps : List Entry) → Ledger a ks ps → (p : Entry) × (js : List ℕ) × Raised a tree t z ks ps p js
 
 -- the causes for which a rule is refused, each without those before it
 abbrev pub Refuses : State → List Token → Refusal → Type 0
@@ -100,6 +102,6 @@ Refuses a ts (refusal.InvalidSlot s) = ⊥
 Refuses a ts (refusal.Misplaced s) = ⊥
 Refuses a ts (refusal.BufferTooShort n) = ⊥
 
-abbrev pub Read : State → List Token → Answer ℕ → State → Type 0
-Read a ts (done k) z = Loading a ts k z
+abbrev pub Read : State → List Token → Answer Key → State → Type 0
+Read a ts (done t) z = Loading a ts t z
 Read a ts (refused e) z = Refuses a ts e × (z ≡ a)

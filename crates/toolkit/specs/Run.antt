@@ -21,7 +21,7 @@ use Rattle.toolkit.specs.Ledger.{State, Entry, roots, Ledger}
 use Rattle.toolkit.specs.Calls.{Answer, done, refused, Fresh, Unload, Read}
 
 pub data Event : Type 0 where
-  read : List Token → Answer ℕ → Event
+  read : List Token → Answer Key → Event
   unload : Key → Answer (Unit {0}) → Event
 
 abbrev pub Step : State → Event → State → Type 0
@@ -41,7 +41,7 @@ gives (read ts r) = []
 gives (unload t r) = accepted r (t .root ∷ [])
 
 abbrev pub leaves : Event → List ℕ
-leaves (read ts (done k)) = k ∷ []
+leaves (read ts (done t)) = t .root ∷ []
 leaves (read ts (refused e)) = []
 leaves (unload t r) = []
 

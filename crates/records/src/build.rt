@@ -1,0 +1,41 @@
+// Putting trees up from free records: a parent over a row of siblings, and a tree behind a row.
+ghost use mathlib.Core.Path.{_≡_};
+ghost use mathlib.Core.List.{List};
+ghost use Prim.Native.Nat.{ℕ, _<_};
+ghost use lib.ListN.{length};
+ghost use Rattle.chain.specs.Chain.{Slot};
+ghost use Rattle.grammar.specs.Tree.{head, Tree, Forest, node, nil, _▸_, _⊕_};
+ghost use Rattle.records.specs.declared.record.Record.{Record};
+ghost use Rattle.records.specs.Building.{Row};
+use crate::record::Mark;
+use crate::record::Record;
+use crate::record::RecordLink;
+use crate::slots::draw;
+use kinds::Form;
+
+/// Draws a record for a parent, and puts it over the row that begins at `first` (0: it has no children).
+pub fn nest(slots: &mut [Record], free: &mut u16, form: Form, first: u16, lo: u32, hi: u32) -> u16
+    requires { ⌜ Slot (length (now slots)) (now free) ⌝ }
+    ensures row { λ r. ⌜ ((s : List Record) (ks : List ℕ) (last : ℕ) (us : Forest) → Row s (now (slots .entry)) ks (now (free .entry)) first last us → Row s (now (slots .exit)) ks (now (free .exit)) r r (node (head form lo hi) us ▸ nil)) ⌝ }
+{
+    draw(
+        slots,
+        free,
+        Record {
+            form,
+            first,
+            next: 0,
+            lo,
+            hi,
+            mark: Mark::Unmarked,
+        },
+    )
+}
+
+/// Puts the tree at `child` behind the row that ends at `last`. The tree was put up after the row.
+pub fn append(slots: &mut [Record], last: u16, child: u16)
+    requires { ⌜ Slot (length (now slots)) last ⌝ }
+    ensures row { λ _. ⌜ ((s t : List Record) (ks : List ℕ) (free rest first : ℕ) (us : Forest) (v : Tree) → (x : Row s t ks free first last us) → Row t (now (slots .entry)) (x .chain) rest child child (v ▸ nil) → Row s (now (slots .exit)) ks rest first child (us ⊕ (v ▸ nil))) ⌝ }
+{
+    chain::link_to(slots, last, child);
+}
