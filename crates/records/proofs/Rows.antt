@@ -249,3 +249,45 @@ row-room s t ks free first last us x n = go (x .chain) (x .loose .1) (x .left)
     go : (js : List ℕ) → Chain (links t) free js → length ks ≡ size (x .siblings) + length js → Slot (length t) free
     go [] c l = absurd (let e : sizes us ≡ size (x .siblings) = ap sizes (sym (x .trees)) ∙ size-forest (x .siblings) in omega (arith, n))
     go (j ∷ js) c l = subst (λ i. Slot (length t) i) (sym (c .0)) (subst (λ m. Slot m j) (length-links t) (c .1))
+
+-- the last of siblings that stand is a slot
+last-slot : (s : List Record) (h : ℕ) (k : ℕ) (d : Head) (A B : Siblings) → Holds s h (sibling k d A B) → Slot (length s) (last-of (sibling k d A B))
+last-slot s h k d A none x = (x .1, x .2)
+last-slot s h k d A (sibling j e C D) x = last-slot s (at s k .next) j e C D (x .5)
+
+pub row-last : (s t e : List Record) (ks : List ℕ) (free first last : ℕ) (us : Forest) → Row s t ks free first last us → length e ≡ length t → last ≢ 0 → Slot (length e) last
+row-last s t e ks free first last us x l ne = subst (λ n. Slot n last) (sym l) (go (x .siblings) (x .loose .0) (x .ends))
+  where
+    go : (g : Siblings) → Holds t first g → last-of g ≡ last → Slot (length t) last
+    go none h z = absurd (ne (sym z))
+    go (sibling k d A B) h z = subst (λ i. Slot (length t) i) z (last-slot t first k d A B h)
+
+-- a tree comes first
+pub row-first :
+    (s t e : List Record)
+    (ks : List ℕ)
+    (free free′ first last child : ℕ)
+    (us : Forest)
+    (v : Tree)
+    → last ≡ 0
+    → (x : Row s t ks free first last us)
+    → Row t e (x .chain) free′ child child (v ▸ nil)
+    → Row s e ks free′ child child (us ⊕ (v ▸ nil))
+row-first s t e ks free free′ first last child us v z x y = go (x .siblings) (x .loose .0) (x .ends) (x .trees) (x .drawn) (x .left)
+  where
+    go : (g : Siblings) → Holds t first g → last-of g ≡ last → forest g ≡ us → ((k : ℕ) → count k g + times k (x .chain) ≡ times k ks) → length ks ≡ size g + length (x .chain) → Row s e ks free′ child child (us ⊕ (v ▸ nil))
+    go none h m f c n =
+        subst (λ ws. Row s e ks free′ child child (ws ⊕ (v ▸ nil))) f
+        record {
+          siblings = y .siblings;
+          chain = y .chain;
+          loose = y .loose;
+          trees = y .trees;
+          ends = y .ends;
+          drawn = λ k. omega (arith, y .drawn k, c k);
+          left = omega (arith, y .left, n);
+          length = y .length ∙ x .length;
+          same = λ k q m. y .same k q (omega (arith, c k, m)) ∙ x .same k q m;
+          plain = λ k q m. y .plain k q (x .plain k q m);
+        }
+    go (sibling k d A B) h m f c n = absurd (omega (arith, last-slot t first k d A B h .0, m, z))

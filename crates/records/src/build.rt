@@ -32,10 +32,31 @@ pub fn nest(slots: &mut [Record], free: &mut u16, form: Form, first: u16, lo: u3
     )
 }
 
-/// Puts the tree at `child` behind the row that ends at `last`. The tree was put up after the row.
-pub fn append(slots: &mut [Record], last: u16, child: u16)
-    requires { ⌜ Slot (length (now slots)) last ⌝ }
-    ensures row { λ _. ⌜ ((s t : List Record) (ks : List ℕ) (free rest first : ℕ) (us : Forest) (v : Tree) → (x : Row s t ks free first last us) → Row t (now (slots .entry)) (x .chain) rest child child (v ▸ nil) → Row s (now (slots .exit)) ks rest first child (us ⊕ (v ▸ nil))) ⌝ }
-{
-    chain::link_to(slots, last, child);
+/// A row of siblings that grows at its end: the slots of its first and its last tree, both 0 while there is none.
+#[derive(Clone, Copy)]
+pub struct Children {
+    pub first: u16,
+    pub last: u16,
+}
+
+impl Children {
+    pub const NONE: Children = Children { first: 0, last: 0 };
+
+    /// The row with the tree at `child` behind it; that tree was put up after the row.
+    pub fn push(self, slots: &mut [Record], child: u16) -> Children
+        requires { ⌜ ((self .last ≡ 0 → ⊥) → Slot (length (now slots)) (self .last)) ⌝ }
+        ensures row { λ r. ⌜ ((s t : List Record) (ks : List ℕ) (free rest : ℕ) (us : Forest) (v : Tree) → (x : Row s t ks free (self .first) (self .last) us) → Row t (now (slots .entry)) (x .chain) rest child child (v ▸ nil) → Row s (now (slots .exit)) ks rest (r .first) (r .last) (us ⊕ (v ▸ nil))) ⌝ }
+    {
+        if self.last == 0 {
+            return Children {
+                first: child,
+                last: child,
+            };
+        }
+        chain::link_to(slots, self.last, child);
+        Children {
+            first: self.first,
+            last: child,
+        }
+    }
 }

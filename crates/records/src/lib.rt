@@ -7,7 +7,7 @@ mod record;
 mod slots;
 mod store;
 
-pub use build::append;
+pub use build::Children;
 pub use build::nest;
 pub use give_back::give_back_tree;
 pub use laws::derived_is_sound;
