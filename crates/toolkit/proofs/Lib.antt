@@ -3,3 +3,4 @@ pub mod Releasing
 pub mod Fresh
 pub mod Runs
 pub mod Raising
+pub mod Balance

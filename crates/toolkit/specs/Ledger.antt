@@ -9,6 +9,8 @@
 --   roots k ps        how often k is a root of the entries
 --   Stand s ps        each entry's tree is what its root stands for, bears its mark, and is sound
 --   Ledger a ks ps    the pool a has the free chain ks and the outstanding trees ps, and nothing is lost or met twice
+--   occupied ps       how many records the entries' trees have
+--   Balanced          in every ledger the free and the occupied records are as many as there are slots
 --   Without p ps qs   the entries ps are p and, in their order, the others qs
 --
 -- Assumes nothing.
@@ -17,7 +19,7 @@ use mathlib.Core.Path.{_≡_}
 use mathlib.Core.List.{List, [], _∷_}
 use lib.ListN.{length}
 use Rattle.chain.specs.Chain.{room, Slot, Chain, is, times}
-use Rattle.grammar.specs.Tree.{Head, Tree, node}
+use Rattle.grammar.specs.Tree.{Head, Tree, node, size}
 use Rattle.records.specs.declared.record.Record.{Record}
 use Rattle.records.specs.declared.record.Mark.{Mark}
 use Rattle.records.specs.declared.record.Mark.the-variants as mark
@@ -67,3 +69,10 @@ pub record Ledger (a : State) (ks : List ℕ) (ps : List Entry) : Type 0 where
 pub data Without (p : Entry) : List Entry → List Entry → Type 0 where
   first : {ps : List Entry} → Without p (p ∷ ps) ps
   later : {q : Entry} {ps qs : List Entry} → Without p ps qs → Without p (q ∷ ps) (q ∷ qs)
+
+abbrev pub occupied : List Entry → ℕ
+occupied [] = 0
+occupied (p ∷ ps) = size (tree p) + occupied ps
+
+abbrev pub Balanced : Type 0
+Balanced = (a : State) (ks : List ℕ) (ps : List Entry) → Ledger a ks ps → length ks + occupied ps ≡ room (length (a .slots))
