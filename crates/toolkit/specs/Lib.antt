@@ -2,4 +2,5 @@
 pub mod Ledger
 pub mod Keys
 pub mod Calls
+pub mod Pools
 pub mod Run
