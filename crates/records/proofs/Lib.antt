@@ -8,3 +8,4 @@ pub mod Marks
 pub mod Suits
 pub mod Measures
 pub mod Rows
+pub mod Standing

@@ -5,6 +5,7 @@
 --   Row s t ks free first last us   from the records s with the free chain ks the trees us were put up, as a row of siblings from the
 --                                   slot `first` to the slot `last`: t are the records then, and the rest of the free chain begins at `free`.
 --                                   No record that was not free has changed, and none has been marked
+--   Stands s from t free first last us   so it is, wherever the free chain that began at `from` had records enough for the trees us
 --
 -- Assumes nothing.
 use Prim.Native.Nat.{ℕ, _+_, _≤_, _<_}
@@ -12,7 +13,7 @@ use mathlib.Core.Path.{_≡_}
 use mathlib.Core.List.{List, [], _∷_}
 use lib.ListN.{length}
 use Rattle.chain.specs.Chain.{Chain, times}
-use Rattle.grammar.specs.Tree.{Head, Forest, node, nil, _▸_}
+use Rattle.grammar.specs.Tree.{Head, Forest, node, nil, _▸_, sizes}
 use Rattle.records.specs.declared.record.Record.{Record}
 use Rattle.records.specs.Record.{links}
 use Rattle.records.specs.Siblings.{Siblings, none, sibling, forest, size, count, Loose, Kept, Plain}
@@ -37,3 +38,6 @@ pub record Row (s t : List Record) (ks : List ℕ) (free first last : ℕ) (us :
   pub length : length t ≡ length s
   pub same : Kept s t none ks
   pub plain : Plain s t
+
+abbrev pub Stands : List Record → ℕ → List Record → ℕ → ℕ → ℕ → Forest → Type 0
+Stands s from t free first last us = (ks : List ℕ) → Chain (links s) from ks → sizes us ≤ length ks → Row s t ks free first last us

@@ -3,6 +3,7 @@ ghost use mathlib.Core.Path.{_≡_};
 ghost use mathlib.Core.List.{List};
 ghost use Prim.Native.Nat.{ℕ, _-_, _<_, _≤_};
 ghost use lib.ListN.{length, set};
+ghost use Rattle.std.specs.Options.{Cases as BySome};
 ghost use Rattle.chain.specs.Chain.{room, Slot, Chain, Off, slots-from, Beyond};
 ghost use Rattle.records.specs.Record.{at, links, vacant, stamped};
 use crate::record::Mark;
@@ -34,18 +35,18 @@ pub fn stamp(slots: &mut [Record], slot: u16, mark: Mark)
     write(slots, slot, Record { mark, ..record });
 }
 
-/// Draws the first free record and writes it; answers its slot. The free chain goes on where that record led.
-pub fn draw(slots: &mut [Record], free: &mut u16, content: Record) -> u16
-    requires { ⌜ Slot (length (now slots)) (now free) ⌝ }
-    ensures slot { λ r. ⌜ r ≡ now (free .entry) ⌝ }
-    ensures free { λ r. ⌜ now (free .exit) ≡ at (now (slots .entry)) r .next ⌝ }
-    ensures records { λ r. ⌜ now (slots .exit) ≡ set (now (slots .entry)) (r - 1) content ⌝ }
+/// Draws the first free record and writes it; answers its slot, and none where no record is free. The free chain goes on
+/// where that record led.
+pub fn draw(slots: &mut [Record], free: &mut u16, content: Record) -> Option<u16>
+    ensures { λ r. ⌜ BySome r
+        ((Slot (length (now (slots .entry))) (now (free .entry)) → ⊥) × (now (free .exit) ≡ now (free .entry)) × (now (slots .exit) ≡ now (slots .entry)))
+        (λ k. (k ≡ now (free .entry)) × Slot (length (now (slots .entry))) k × (now (free .exit) ≡ at (now (slots .entry)) k .next) × (now (slots .exit) ≡ set (now (slots .entry)) (k - 1) content)) ⌝ }
 {
     let Some(slot) = chain::draw(slots, free) else {
-        unreachable()
+        return None;
     };
     write(slots, slot, content);
-    slot
+    Some(slot)
 }
 
 /// Gives the record of a slot back: it is free, and first on the free chain. Whoever gives back owes that the slot was

@@ -8,12 +8,18 @@ ghost use Rattle.std.specs.Options.{Cases as BySome};
 ghost use Rattle.chain.specs.Chain.{room, Slot, Chain, slots-from, Beyond};
 ghost use Rattle.records.specs.declared.record.Mark.the-variants.{Unmarked};
 ghost use Rattle.records.specs.Record.{at, links, vacant, stamped};
+ghost use Rattle.grammar.specs.Tree.{head, Tree, Forest, node, nil, _▸_, _⊕_};
+ghost use Rattle.records.specs.declared.record.Record.{Record};
 ghost use Rattle.records.specs.Siblings.{Siblings, Loose, Given};
+ghost use Rattle.records.specs.Building.{Stands};
+use crate::build;
+use crate::build::Children;
 use crate::give_back::give_back_tree;
 use crate::record::Mark;
 use crate::record::Record;
 use crate::record::RecordLink;
 use crate::slots;
+use kinds::Form;
 
 /// The records, and where the chain of the free ones begins.
 #[derive(Drop)]
@@ -63,5 +69,26 @@ impl<'a> Store<'a> {
         slots::stamp(self.slots, root, Mark::Unmarked);
         let free = self.free;
         self.free = give_back_tree(self.slots, free, root);
+    }
+
+    /// Draws a record for a parent and puts it over the row that begins at `first`.
+    pub fn nest(&mut self, form: Form, first: u16, lo: u32, hi: u32) -> u16
+        ensures row { λ r. ⌜ ((s : List Record) (from last : ℕ) (us : Forest) → Stands s from (now (now (self .entry) .slots)) (now (self .entry) .free) first last us
+            → Stands s from (now (now (self .exit) .slots)) (now (self .exit) .free) r r (node (head form lo hi) us ▸ nil)) ⌝ }
+        ensures lender { λ _. ⌜ name (now (self .exit) .slots) ≡ name (now (self .entry) .slots) ⌝ }
+    {
+        let mut free = self.free;
+        let slot = build::nest(self.slots, &mut free, form, first, lo, hi);
+        self.free = free;
+        slot
+    }
+
+    /// The row with the tree at `child` behind it; that tree was put up after the row.
+    pub fn push(&mut self, children: Children, child: u16) -> Children
+        ensures row { λ r. ⌜ ((s t : List Record) (from free : ℕ) (us : Forest) (v : Tree) → Stands s from t free (children .first) (children .last) us → Stands t free (now (now (self .entry) .slots)) (now (self .entry) .free) child child (v ▸ nil)
+            → Stands s from (now (now (self .exit) .slots)) (now (self .exit) .free) (r .first) (r .last) (us ⊕ (v ▸ nil))) ⌝ }
+        ensures lender { λ _. ⌜ name (now (self .exit) .slots) ≡ name (now (self .entry) .slots) ⌝ }
+    {
+        children.push(self.slots, child)
     }
 }

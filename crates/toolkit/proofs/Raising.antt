@@ -17,7 +17,7 @@ use Rattle.records.specs.declared.record.Mark.{Mark}
 use Rattle.records.specs.declared.record.Mark.the-variants as mark
 use Rattle.records.specs.Record.{headOf, at, marked, stamped}
 use Rattle.records.specs.Siblings.{Siblings, none, sibling, forest, size, count, Holds, Loose, Kept}
-use Rattle.records.specs.Building.{Row}
+use Rattle.records.specs.Building.{Row, Stands}
 use Rattle.records.specs.Formed.{Sound}
 use Rattle.records.proofs.AtSlots.{at-same, at-other}
 use Rattle.records.proofs.Frame.{Alike, alike, frame, frame-chain}
@@ -134,7 +134,7 @@ module _ (a : State) (t : List Record) (free root : ℕ) (u : Tree) (ks : List �
       (omega (arith, m .left))
       (m .plain)
 
--- so what the reader builds is what `read` promises
+-- so what the reader puts up, where records enough are free, is what `read` promises
 pub loading :
     (a : State)
     (t : List Record)
@@ -144,9 +144,10 @@ pub loading :
     → Reads ts u
     → trees.depth u ≤ 512
     → length t ≡ length (a .slots)
-    → ((ks : List ℕ) (ps : List Entry) → Ledger a ks ps → Row (a .slots) t ks free root root (u ▸ nil))
+    → ((ks : List ℕ) (ps : List Entry) → Ledger a ks ps → trees.size u ≤ length ks)
+    → Stands (a .slots) (a .free) t free root root (u ▸ nil)
     → Loading a ts (loaded-key a root) (state (a .number) (stamped t root mark.Loaded) free)
-loading a t free root ts u r d l built =
+loading a t free root ts u r d l enough stands =
     record {
       tree = u;
       derived = r;
@@ -155,7 +156,9 @@ loading a t free root ts u r d l built =
       mark = refl;
       number = refl;
       length = length-set t (root - 1) (marked (at t root) mark.Loaded) ∙ l;
-      raised = λ ks ps b. raised-by a t free root u ks ps b l (derived-sound ts u r d) (built ks ps b);
+      raised = λ ks ps b.
+          raised-by a t free root u ks ps b l (derived-sound ts u r d)
+          (stands ks (b .chain) (omega (arith, enough ks ps b, tree-size u)));
     }
 
 -- and the invariant of the pool
