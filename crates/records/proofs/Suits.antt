@@ -11,7 +11,7 @@ use Rattle.kinds.specs.declared.form.Form.the-variants as form
 use Rattle.kinds.specs.declared.form.Binding.the-variants as binding
 use Rattle.token.specs.declared.Token.{Token}
 use Rattle.grammar.specs.Tree.{Head, Tree, Forest, node, nil, _▸_, headOf, depth}
-use Rattle.grammar.specs.Site.{Attr, isSort, isExpression, isBrace, expression, statement, block, declaration, script, Site, at, start, body, blockOnly, stmt, closed, init, varInit, forLeft, varIn, prop, plainName, valuedName, keyName, root, ok}
+use Rattle.grammar.specs.Site.{Attr, isSort, isExpression, isBrace, expression, statement, block, declaration, script, Site, at, start, body, blockOnly, stmt, closed, init, varInit, varIn, prop, plainName, valuedName, keyName, root, ok}
 use Rattle.grammar.specs.Layout.{Lay, end, stop, tok, kid, layout, attrOf, attr, attrs, fitKids, good, goods, Good}
 use Rattle.grammar.specs.Claim.{Reads}
 use Rattle.grammar.proofs.Tests.{and-l, and-r, and-i, or-l, or-r}
@@ -124,7 +124,6 @@ ok-suited stmt f cs h = statement-suited f h
 ok-suited closed f cs h = statement-suited f (and-l (of statement f || (of block f || of declaration f)) _ h)
 ok-suited init f cs h = value f (and-l (of expression f) _ h)
 ok-suited varInit f cs h = and-l (of declaration f) _ h
-ok-suited forLeft f cs h = value f (and-l (of expression f) _ h)
 ok-suited varIn f cs h = and-l (of declaration f) _ h
 ok-suited prop f cs h = h
 ok-suited plainName f cs h = plain-suited f cs h

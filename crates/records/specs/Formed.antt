@@ -18,7 +18,7 @@ use Rattle.kinds.specs.declared.kind.Kind.the-variants as kind
 use Rattle.kinds.specs.declared.form.Form.{Form}
 use Rattle.kinds.specs.declared.form.Form.the-variants as form
 use Rattle.kinds.specs.declared.form.Sort.the-variants as hole
-use Rattle.grammar.specs.Site.{Sort, sortRank, expression, statement, block, declaration, property, valued, script, nothing, Site, at, start, body, blockOnly, stmt, closed, init, varInit, forLeft, varIn, prop, plainName, valuedName, keyName, root}
+use Rattle.grammar.specs.Site.{Sort, sortRank, expression, statement, block, declaration, property, valued, script, nothing, Site, at, start, body, blockOnly, stmt, closed, init, varInit, varIn, prop, plainName, valuedName, keyName, root}
 use Rattle.grammar.specs.Layout.{Lay, end, stop, tok, kid, layout, sortOf, attrs}
 use Rattle.token.specs.declared.Token.{Token}
 use Rattle.grammar.specs.Claim.{Reads}
@@ -90,7 +90,6 @@ suited stmt f = statementLike f
 suited closed f = statementLike f
 suited init f = valueLike f
 suited varInit f = of declaration f
-suited forLeft f = valueLike f
 suited varIn f = of declaration f
 suited prop f = of property f
 suited plainName f = of expression f && ofKind kind.Name f
