@@ -1,0 +1,7 @@
+-- The proofs of this crate.
+pub mod Fuel
+pub mod Eats
+pub mod Taking
+pub mod Records
+pub mod Trees
+pub mod Exits
