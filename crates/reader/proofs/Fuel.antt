@@ -16,7 +16,6 @@ abbrev _⊑_ : {B : Type 0} → Option B → Option B → Type 0
 _⊑_ {B} o o′ = (y : B) → o ≡ some y → o′ ≡ some y
 
 infix 40 _⊑_
-
 same : {B : Type 0} (o : Option B) → o ⊑ o
 same o y h = h
 
@@ -50,10 +49,10 @@ one-more : (n : ℕ) → OneMore n
 unfolding parse loop perform
 one-more zero = (λ b q ks y h. absurd (Option·none-ne-some y h), λ b q t ks y h. absurd (Option·none-ne-some y h), λ b s h ks y e. absurd (Option·none-ne-some y e))
 one-more (suc n) =
-    let ih : OneMore n = one-more n in
-    ( λ b q ks. bind-mono (perform n b (prefix q ks) 0 ks) (perform (suc n) b (prefix q ks) 0 ks) (λ y. loop n b q (begun ks y) (y .left)) (λ y. loop (suc n) b q (begun ks y) (y .left)) (ih .2 b (prefix q ks) 0 ks) (λ y. ih .1 b q (begun ks y) (y .left))
-    , λ b q t ks. cond-mono (goesOn b q (attr t) (frame (next ks))) _ _ (some (t, ks)) (some (t, ks)) (bind-mono (perform n b (frameDo (next ks) (attr t .standing)) (headOf t .hi) ks) (perform (suc n) b (frameDo (next ks) (attr t .standing)) (headOf t .hi) ks) (λ y. loop n b q (grownOn t y) (y .left)) (λ y. loop (suc n) b q (grownOn t y) (y .left)) (ih .2 b (frameDo (next ks) (attr t .standing)) (headOf t .hi) ks) (λ y. ih .1 b q (grownOn t y) (y .left))) (same (some (t, ks)))
-    , λ b s h ks. exec-mono (parse n) (parse (suc n)) (perform n) (perform (suc n)) (ih .0) (ih .2) b (settle s ks) h ks
+    let ih : OneMore n = one-more n in (
+      λ b q ks. bind-mono (perform n b (prefix q ks) 0 ks) (perform (suc n) b (prefix q ks) 0 ks) (λ y. loop n b q (begun ks y) (y .left)) (λ y. loop (suc n) b q (begun ks y) (y .left)) (ih .2 b (prefix q ks) 0 ks) (λ y. ih .1 b q (begun ks y) (y .left)),
+      λ b q t ks. cond-mono (goesOn b q (attr t) (frame (next ks))) _ _ (some (t, ks)) (some (t, ks)) (bind-mono (perform n b (frameDo (next ks) (attr t .standing)) (headOf t .hi) ks) (perform (suc n) b (frameDo (next ks) (attr t .standing)) (headOf t .hi) ks) (λ y. loop n b q (grownOn t y) (y .left)) (λ y. loop (suc n) b q (grownOn t y) (y .left)) (ih .2 b (frameDo (next ks) (attr t .standing)) (headOf t .hi) ks) (λ y. ih .1 b q (grownOn t y) (y .left))) (same (some (t, ks))),
+      λ b s h ks. exec-mono (parse n) (parse (suc n)) (perform n) (perform (suc n)) (ih .0) (ih .2) b (settle s ks) h ks,
     )
 
 abbrev up : ℕ → ℕ → ℕ

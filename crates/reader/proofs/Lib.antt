@@ -5,3 +5,6 @@ pub mod Taking
 pub mod Records
 pub mod Trees
 pub mod Exits
+pub mod Plain
+pub mod Width
+pub mod Scripts

@@ -117,21 +117,21 @@ holds-same us p q a b c d e h = record { childless = h .childless ∙ sym a; cal
 holds-join : (us : Forest) (t : Tree) (p q : Parts) (f : Found) → Holds us p → Shape t f → Joined p f q → Holds (us ⊕ (t ▸ nil)) q
 unfolding attr
 holds-join nil t p q f h s j =
-    record
-      { childless = sym (j .childless)
-      ; call = sym (j .call ∙ rw (sym (h .childless)) (ap isC (sym (s .stands))))
-      ; target = sym (j .target ∙ rw (sym (h .childless)) (ap isTarget (sym (s .stands))))
-      ; records = sizes-last nil t ∙ omega (arith, h .records, s .records, j .records)
-      ; nests = depths-last nil t ∙ rw (h .nests, s .nests, j .nests) (ap (λ (k : ℕ). max (p .depth) k) (omega arith))
-      }
+    record {
+      childless = sym (j .childless);
+      call = sym (j .call ∙ rw (sym (h .childless)) (ap isC (sym (s .stands))));
+      target = sym (j .target ∙ rw (sym (h .childless)) (ap isTarget (sym (s .stands))));
+      records = sizes-last nil t ∙ omega (arith, h .records, s .records, j .records);
+      nests = depths-last nil t ∙ rw (h .nests, s .nests, j .nests) (ap (λ (k : ℕ). max (p .depth) k) (omega arith));
+    }
 holds-join (u ▸ us) t p q f h s j =
-    record
-      { childless = sym (j .childless)
-      ; call = sym (j .call ∙ rw (sym (h .childless)) (sym (h .call)))
-      ; target = sym (j .target ∙ rw (sym (h .childless)) (sym (h .target)))
-      ; records = sizes-last (u ▸ us) t ∙ omega (arith, h .records, s .records, j .records)
-      ; nests = depths-last (u ▸ us) t ∙ rw (h .nests, s .nests, j .nests) (ap (λ (k : ℕ). max (p .depth) k) (omega arith))
-      }
+    record {
+      childless = sym (j .childless);
+      call = sym (j .call ∙ rw (sym (h .childless)) (sym (h .call)));
+      target = sym (j .target ∙ rw (sym (h .childless)) (sym (h .target)));
+      records = sizes-last (u ▸ us) t ∙ omega (arith, h .records, s .records, j .records);
+      nests = depths-last (u ▸ us) t ∙ rw (h .nests, s .nests, j .nests) (ap (λ (k : ℕ). max (p .depth) k) (omega arith));
+    }
 
 bad-le : (e : Unread) (i d b : ℕ) → Bad e i d → d ≤ b → Bad e i b
 bad-le NoDerivation i d b h le = h
@@ -146,42 +146,45 @@ module _ (ts : List Token) (b : Bool) where
     carried-eat k s2 q e x =
         let (us, h, (m0, g)) = c .run in
         let (tk, v, sm, hi) = x .next in
-        record
-          { few = omega (arith, c .few, x .records, x .end, own-one s)
-          ; fewer = omega (arith, c .fewer, x .records, x .end)
-          ; nests = omega (arith, c .nests, x .records, x .nests)
-          ; within = omega (arith, x .within, x .end)
-          ; lo = x .lo ∙ c .lo
-          ; run =
-              ( us
-              , λ ws hw. holds-same (ws ⊕ us) p q (x .childless) (x .call) (x .target) (x .records) (x .nests) (h ws hw)
-              , (m0, λ m le. let (n, l, w) = g (suc m) (omega arith) in (n, omega arith, w ∙ ap (graft us) (step-eat m b s (p .hi) (view ts (p .end)) k s2 tk (view ts (p .end + 1)) e v sm ∙ rw (hi, x .end) refl)))
-              )
-          }
+        record {
+          few = omega (arith, c .few, x .records, x .end, own-one s);
+          fewer = omega (arith, c .fewer, x .records, x .end);
+          nests = omega (arith, c .nests, x .records, x .nests);
+          within = omega (arith, x .within, x .end);
+          lo = x .lo ∙ c .lo;
+          run = (
+            us,
+            λ ws hw. holds-same (ws ⊕ us) p q (x .childless) (x .call) (x .target) (x .records) (x .nests) (h ws hw),
+            (m0, λ m le. let (n, l, w) = g (suc m) (omega arith) in (n, omega arith, w ∙ ap (graft us) (step-eat m b s (p .hi) (view ts (p .end)) k s2 tk (view ts (p .end + 1)) e v sm ∙ rw (hi, x .end) refl))),
+          );
+        }
 
     pub carried-read : (d : Mode) (g : Goal) (s2 : Do) (f : Found) (q : Parts) → settle s (view ts (p .end)) ≡ sub d g s2 → Parsed ts (p .end) (mode d b) g f → Joined p f q → Carried ts b s0 p0 s2 q
     carried-read d g s2 f q e x j =
         let (us, h, (m0, w)) = c .run in
         let (t, sh, (m1, r)) = x .tree in
         let big : own s ≤ own s2 = subst (λ (z : Do). own s ≤ own z) e (own-settle s (view ts (p .end))) in
-        record
-          { few = omega (arith, c .few, x .few, j .records, j .end, big)
-          ; fewer = omega (arith, c .fewer, x .few, j .records, j .end)
-          ; nests = omega (arith, c .nests, x .nests, j .records, j .nests)
-          ; within = omega (arith, x .within, j .end)
-          ; lo = j .lo ∙ c .lo
-          ; run =
-              ( us ⊕ (t ▸ nil)
-              , λ ws hw. subst (λ (vs : Forest). Holds vs q) (join-assoc ws us (t ▸ nil)) (holds-join (ws ⊕ us) t p q f (h ws hw) sh j)
-              , (m0 + m1, λ m le.
+        record {
+          few = omega (arith, c .few, x .few, j .records, j .end, big);
+          fewer = omega (arith, c .fewer, x .few, j .records, j .end);
+          nests = omega (arith, c .nests, x .nests, j .records, j .nests);
+          within = omega (arith, x .within, j .end);
+          lo = j .lo ∙ c .lo;
+          run = (
+            us ⊕ (t ▸ nil),
+            λ ws hw. subst (λ (vs : Forest). Holds vs q) (join-assoc ws us (t ▸ nil)) (holds-join (ws ⊕ us) t p q f (h ws hw) sh j),
+            (
+              m0 + m1,
+              λ m le.
                   let (n, l, y) = w (suc m) (omega arith) in
-                  let hi : headOf t .hi ≡ q .hi = ap (λ (z : Head). z .hi) (sh .heads) ∙ sym (j .hi) in
-                  ( n
-                  , omega arith
-                  , y ∙ ap (graft us) (sub-yes m b s (p .hi) (view ts (p .end)) d g s2 t (view ts (f .end)) e (r m (omega arith))) ∙ graft-graft us (t ▸ nil) (perform m b s2 (headOf t .hi) (view ts (f .end))) ∙ rw (hi, j .end) refl
-                  ))
-              )
-          }
+                  let hi : headOf t .hi ≡ q .hi = ap (λ (z : Head). z .hi) (sh .heads) ∙ sym (j .hi) in (
+                    n,
+                    omega arith,
+                    y ∙ ap (graft us) (sub-yes m b s (p .hi) (view ts (p .end)) d g s2 t (view ts (f .end)) e (r m (omega arith))) ∙ graft-graft us (t ▸ nil) (perform m b s2 (headOf t .hi) (view ts (f .end))) ∙ rw (hi, j .end) refl,
+                  ),
+            ),
+          );
+        }
 
     pub made : (g : Form) (f : Found) → settle s (view ts (p .end)) ≡ fin g → Completed p g f → Made ts b s0 p0 f
     made g f e x =
@@ -189,17 +192,17 @@ module _ (ts : List Token) (b : Bool) where
         let (n, l, y) = w (suc m0) (omega arith) in
         let big : own s ≤ 0 = subst (λ (z : Do). own s ≤ own z) e (own-settle s (view ts (p .end))) in
         let is : perform n b s0 (p0 .hi) (view ts (p0 .end)) ≡ some (ran (f .form) us (f .hi) (view ts (f .end))) = y ∙ ap (graft us) (step-fin m0 b s (p .hi) (view ts (p .end)) g e) ∙ rw (x .form, x .hi, x .end, join-nil us) refl in
-        record
-          { few = omega (arith, c .few, x .records, x .end, big)
-          ; nests = omega (arith, c .nests, x .records, x .nests)
-          ; within = omega (arith, c .within, x .end)
-          ; lo = x .lo ∙ c .lo
-          ; run =
-              ( us
-              , (n, λ m le. raise-R n m b s0 (p0 .hi) (view ts (p0 .end)) _ le is)
-              , λ ws hw. let k = h ws hw in record { call = k .call ∙ sym (x .call); target = k .target ∙ sym (x .target); records = k .records ∙ sym (x .records); nests = k .nests ∙ sym (x .nests) }
-              )
-          }
+        record {
+          few = omega (arith, c .few, x .records, x .end, big);
+          nests = omega (arith, c .nests, x .records, x .nests);
+          within = omega (arith, c .within, x .end);
+          lo = x .lo ∙ c .lo;
+          run = (
+            us,
+            (n, λ m le. raise-R n m b s0 (p0 .hi) (view ts (p0 .end)) _ le is),
+            λ ws hw. let k = h ws hw in record { call = k .call ∙ sym (x .call); target = k .target ∙ sym (x .target); records = k .records ∙ sym (x .records); nests = k .nests ∙ sym (x .nests) },
+          );
+        }
 
     -- what the whole would give, the rest gives
     back : (n : ℕ) (y : Ran) → perform n b s0 (p0 .hi) (view ts (p0 .end)) ≡ some y → (m : ℕ) × (z : Ran) × (perform (suc m) b s (p .hi) (view ts (p .end)) ≡ some z) × (depths (z .kids) ≤ depths (y .kids))

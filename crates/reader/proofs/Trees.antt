@@ -40,11 +40,11 @@ unfolding depth
 depth-kids h t us = omega arith
 
 -- a record over children
-shape-node : (us : Forest) (f : Found) (l : ℕ) → l ≡ f .lo → Shaped us f → Shape (node (head (f .form) l (f .hi)) us) f
+pub shape-node : (us : Forest) (f : Found) (l : ℕ) → l ≡ f .lo → Shaped us f → Shape (node (head (f .form) l (f .hi)) us) f
 unfolding attr size depth
 shape-node us f l e s = record { heads = rw e refl; sort = refl; stands = rw (s .call, s .target) refl; records = ap (λ (k : ℕ). 1 + k) (s .records); nests = ap (λ (k : ℕ). 1 + k) (s .nests) }
 
-holds-nil : (ts : List Token) (i : ℕ) (p : Parts) → Started ts i p → Holds nil p
+pub holds-nil : (ts : List Token) (i : ℕ) (p : Parts) → Started ts i p → Holds nil p
 unfolding attrs sizes depths
 holds-nil ts i p s = record { childless = sym (s .childless); call = sym (s .call); target = sym (s .target); records = sym (s .records); nests = sym (s .nests) }
 
@@ -89,16 +89,16 @@ module _ (ts : List Token) (i : ℕ) (b : Bool) (q : Goal) where
         let (us, (k, r), h) = m .run in
         let one : 1 ≤ own s = own-true s (subst (λ (x : Do). T (eats x)) (sym e) o) in
         let y : Ran = ran (f .form) us (f .hi) (view ts (f .end)) in
-        record
-          { few = omega (arith, m .few, st .records, st .end, one)
-          ; nests = m .nests
-          ; within = m .within
-          ; tree =
-              ( begun (view ts i) y
-              , shape-node us f (loOf (view ts i)) (sym (m .lo ∙ st .lo)) (h nil (holds-nil ts i p st))
-              , (k, λ n le. (suc n, omega arith, parse-one n b q (view ts i) y (rw (e, st .hi, st .end) at (r n le))))
-              )
-          }
+        record {
+          few = omega (arith, m .few, st .records, st .end, one);
+          nests = m .nests;
+          within = m .within;
+          tree = (
+            begun (view ts i) y,
+            shape-node us f (loOf (view ts i)) (sym (m .lo ∙ st .lo)) (h nil (holds-nil ts i p st)),
+            (k, λ n le. (suc n, omega arith, parse-one n b q (view ts i) y (rw (e, st .hi, st .end) at (r n le)))),
+          );
+        }
 
     pub refused-first : (room inner : ℕ) (x : Unread) → 0 < room → inner ≡ room - 1 → NotMade ts b s p inner x → NotParsed ts i b q room x
     refused-first room inner x pos is nm n t r h =
@@ -133,16 +133,16 @@ module _ (ts : List Token) (i : ℕ) (b : Bool) (q : Goal) where
         let y : Ran = ran (f .form) us (f .hi) (view ts (f .end)) in
         let hi : p .hi ≡ headOf t .hi = al .hi ∙ sym (ap (λ (z : Head). z .hi) (sh .heads)) in
         let lo : headOf t .lo ≡ f .lo = ap (λ (z : Head). z .lo) (sh .heads) ∙ sym (m .lo ∙ al .lo) in
-        record
-          { few = omega (arith, re .few, m .few, al .records, al .end, one)
-          ; nests = m .nests
-          ; within = m .within
-          ; tree =
-              ( grownOn t y
-              , shape-node (t ▸ us) f (headOf t .lo) lo (h (t ▸ nil) (holds-one t l p sh al))
-              , (k + k2, λ n le. let (n2, le2, e) = w (suc n) (omega arith) in (n2, omega arith, e ∙ loop-on n b q t (view ts (l .end)) y (goes t sh) (rw (does t sh, hi, al .end) at (r n (omega arith)))))
-              )
-          }
+        record {
+          few = omega (arith, re .few, m .few, al .records, al .end, one);
+          nests = m .nests;
+          within = m .within;
+          tree = (
+            grownOn t y,
+            shape-node (t ▸ us) f (headOf t .lo) lo (h (t ▸ nil) (holds-one t l p sh al)),
+            (k + k2, λ n le. let (n2, le2, e) = w (suc n) (omega arith) in (n2, omega arith, e ∙ loop-on n b q t (view ts (l .end)) y (goes t sh) (rw (does t sh, hi, al .end) at (r n (omega arith))))),
+          );
+        }
 
     pub refused-next : (room inner : ℕ) (x : Unread) → 0 < room → inner ≡ room - 1 → NotMade ts b s p inner x → NotParsed ts i b q room x
     refused-next room inner x pos is nm n u r h =

@@ -1,3 +1,4 @@
 -- What the contracts of this crate cite.
 pub mod Table
 pub mod Reads
+pub mod Width

@@ -104,10 +104,22 @@ fn operator_begins(operator: Operator) -> Rest
     ensures { λ r. ⌜ doOf r ≡ operatorDo operator ⌝ }
 {
     match operator {
-        Operator::Not => unary(Code::Operator(Operator::Not), Form::Unary(UnaryOperator::Not)),
-        Operator::BitNot => unary(Code::Operator(Operator::BitNot), Form::Unary(UnaryOperator::BitNot)),
-        Operator::Plus => unary(Code::Operator(Operator::Plus), Form::Unary(UnaryOperator::Plus)),
-        Operator::Minus => unary(Code::Operator(Operator::Minus), Form::Unary(UnaryOperator::Minus)),
+        Operator::Not => unary(
+            Code::Operator(Operator::Not),
+            Form::Unary(UnaryOperator::Not),
+        ),
+        Operator::BitNot => unary(
+            Code::Operator(Operator::BitNot),
+            Form::Unary(UnaryOperator::BitNot),
+        ),
+        Operator::Plus => unary(
+            Code::Operator(Operator::Plus),
+            Form::Unary(UnaryOperator::Plus),
+        ),
+        Operator::Minus => unary(
+            Code::Operator(Operator::Minus),
+            Form::Unary(UnaryOperator::Minus),
+        ),
         Operator::Increment => update(UpdateOperator::Increment),
         Operator::Decrement => update(UpdateOperator::Decrement),
         _ => Rest::Fail,

@@ -137,8 +137,16 @@ pub fn join(parts: Parts, child: Found) -> Parts
     requires nests { ⌜ child .under ≤ child .below ⌝ }
     ensures { λ r. ⌜ Joined parts child r ⌝ }
 {
-    let over_call = if parts.childless { is_call(child) } else { parts.over_call };
-    let over_target = if parts.childless { is_target(child) } else { parts.over_target };
+    let over_call = if parts.childless {
+        is_call(child)
+    } else {
+        parts.over_call
+    };
+    let over_target = if parts.childless {
+        is_target(child)
+    } else {
+        parts.over_target
+    };
     Parts {
         childless: false,
         over_call,

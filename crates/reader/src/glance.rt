@@ -17,7 +17,11 @@ pub fn token_at(tokens: &[Token], at: usize) -> Option<Token>
     requires { ⌜ at ≤ length (now tokens) ⌝ }
     ensures { λ r. ⌜ Stands (now (tokens .entry)) at r ⌝ }
 {
-    if at < tokens.len() { Some(tokens[at]) } else { None }
+    if at < tokens.len() {
+        Some(tokens[at])
+    } else {
+        None
+    }
 }
 
 /// The code of the token at `at`, if there is one.

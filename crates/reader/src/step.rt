@@ -115,7 +115,10 @@ fn body_end(body: Body) -> Step
     ensures { λ r. ⌜ toDo r ≡ bodyEnd body ⌝ }
 {
     match body {
-        Body::Block => Step::Eat(Code::Punctuator(Punctuator::CloseBrace), Rest::Done(Form::Block)),
+        Body::Block => Step::Eat(
+            Code::Punctuator(Punctuator::CloseBrace),
+            Rest::Done(Form::Block),
+        ),
         Body::Script => Step::Finish(Form::Script),
     }
 }
@@ -125,7 +128,10 @@ fn var_end(declared: Declared) -> Step
     ensures { λ r. ⌜ toDo r ≡ varEnd declared ⌝ }
 {
     match declared {
-        Declared::Statement => Step::Eat(Code::Punctuator(Punctuator::Semicolon), Rest::Done(Form::Var)),
+        Declared::Statement => Step::Eat(
+            Code::Punctuator(Punctuator::Semicolon),
+            Rest::Done(Form::Var),
+        ),
         Declared::Head => Step::Finish(Form::Var),
     }
 }
@@ -196,11 +202,18 @@ fn for_init(tokens: &[Token], at: usize) -> Step
     ensures { λ r. ⌜ toDo r ≡ settle (doOf ForInit) (view (now (tokens .entry)) at) ⌝ }
 {
     if sees(tokens, at, Code::Punctuator(Punctuator::Semicolon)) {
-        Step::Eat(Code::Punctuator(Punctuator::Semicolon), Rest::ForTest(false))
+        Step::Eat(
+            Code::Punctuator(Punctuator::Semicolon),
+            Rest::ForTest(false),
+        )
     } else if sees(tokens, at, Code::Word(Word::Var)) {
         Step::Read(Mode::Shut, Goal::Declaration, Rest::ForHead)
     } else {
-        Step::Read(Mode::Shut, Goal::Expression(Slot::Expression), Rest::ForHead)
+        Step::Read(
+            Mode::Shut,
+            Goal::Expression(Slot::Expression),
+            Rest::ForHead,
+        )
     }
 }
 
@@ -216,7 +229,10 @@ pub fn next_step(tokens: &[Token], at: usize, rest: Rest) -> Step
         Rest::Last(mode, goal, form) => Step::Read(mode, goal, Rest::Done(form)),
         Rest::TokenLast(code, mode, goal, form) => Step::Eat(code, Rest::Last(mode, goal, form)),
         Rest::Closed(goal, code, form) => Step::Read(Mode::Free, goal, Rest::Token(code, form)),
-        Rest::Enclosed(before, goal, code, form) => Step::Eat(before, Rest::Closed(goal, code, form)),
+        Rest::Enclosed(before, goal, code, form) => Step::Eat(
+            before,
+            Rest::Closed(goal, code, form),
+        ),
         Rest::Open(list) => Step::Eat(open(list), Rest::Items(list)),
         Rest::Items(list) => items(tokens, at, list),
         Rest::More(list) => more(tokens, at, list),
@@ -226,13 +242,20 @@ pub fn next_step(tokens: &[Token], at: usize, rest: Rest) -> Step
             if sees(tokens, at, Code::Punctuator(Punctuator::OpenBrace)) {
                 Step::Read(Mode::Free, Goal::Block, Rest::Done(Form::Arrow))
             } else {
-                Step::Read(Mode::Same, Goal::Expression(Slot::Assignment), Rest::Done(Form::Arrow))
+                Step::Read(
+                    Mode::Same,
+                    Goal::Expression(Slot::Assignment),
+                    Rest::Done(Form::Arrow),
+                )
             }
         }
         Rest::Function => Step::Eat(Code::Word(Word::Function), Rest::FunctionHead),
         Rest::FunctionHead => {
             if sees(tokens, at, Code::Punctuator(Punctuator::OpenParen)) {
-                Step::Eat(Code::Punctuator(Punctuator::OpenParen), Rest::Items(List::Parameters(Own::Nameless)))
+                Step::Eat(
+                    Code::Punctuator(Punctuator::OpenParen),
+                    Rest::Items(List::Parameters(Own::Nameless)),
+                )
             } else {
                 Step::Read(
                     Mode::Free,
@@ -256,13 +279,21 @@ pub fn next_step(tokens: &[Token], at: usize, rest: Rest) -> Step
         Rest::Yield => Step::Eat(Code::Word(Word::Yield), Rest::YieldOperand),
         Rest::YieldOperand => {
             if opens_at(tokens, at) {
-                Step::Read(Mode::Same, Goal::Expression(Slot::Assignment), Rest::Done(Form::Yield))
+                Step::Read(
+                    Mode::Same,
+                    Goal::Expression(Slot::Assignment),
+                    Rest::Done(Form::Yield),
+                )
             } else {
                 Step::Finish(Form::Yield)
             }
         }
         Rest::Comma => Step::Eat(Code::Punctuator(Punctuator::Comma), Rest::Element),
-        Rest::Element => Step::Read(Mode::Same, Goal::Expression(Slot::Assignment), Rest::MoreElements),
+        Rest::Element => Step::Read(
+            Mode::Same,
+            Goal::Expression(Slot::Assignment),
+            Rest::MoreElements,
+        ),
         Rest::MoreElements => {
             if sees(tokens, at, Code::Punctuator(Punctuator::Comma)) {
                 Step::Eat(Code::Punctuator(Punctuator::Comma), Rest::Element)
@@ -283,7 +314,10 @@ pub fn next_step(tokens: &[Token], at: usize, rest: Rest) -> Step
         ),
         Rest::OptionalSign => Step::Eat(Code::Punctuator(Punctuator::QuestionDot), Rest::Link),
         Rest::Link => link(tokens, at),
-        Rest::Block => Step::Eat(Code::Punctuator(Punctuator::OpenBrace), Rest::Statements(Body::Block)),
+        Rest::Block => Step::Eat(
+            Code::Punctuator(Punctuator::OpenBrace),
+            Rest::Statements(Body::Block),
+        ),
         Rest::Statements(body) => {
             if at_stop(tokens, at) {
                 body_end(body)
@@ -293,18 +327,31 @@ pub fn next_step(tokens: &[Token], at: usize, rest: Rest) -> Step
         }
         Rest::Test(tested) => Step::Eat(tested_word(tested), Rest::TestOpen(tested)),
         Rest::TestOpen(tested) => {
-            Step::Eat(Code::Punctuator(Punctuator::OpenParen), Rest::TestInside(tested))
+            Step::Eat(
+                Code::Punctuator(Punctuator::OpenParen),
+                Rest::TestInside(tested),
+            )
         }
         Rest::TestInside(tested) => {
-            Step::Read(Mode::Free, Goal::Expression(Slot::Expression), Rest::TestClose(tested))
+            Step::Read(
+                Mode::Free,
+                Goal::Expression(Slot::Expression),
+                Rest::TestClose(tested),
+            )
         }
         Rest::TestClose(tested) => {
-            Step::Eat(Code::Punctuator(Punctuator::CloseParen), Rest::TestBody(tested))
+            Step::Eat(
+                Code::Punctuator(Punctuator::CloseParen),
+                Rest::TestBody(tested),
+            )
         }
         Rest::TestBody(tested) => Step::Read(Mode::Free, Goal::Statement, behind_body(tested)),
         Rest::Else => {
             if sees(tokens, at, Code::Word(Word::Else)) {
-                Step::Eat(Code::Word(Word::Else), Rest::Last(Mode::Free, Goal::Statement, Form::If))
+                Step::Eat(
+                    Code::Word(Word::Else),
+                    Rest::Last(Mode::Free, Goal::Statement, Form::If),
+                )
             } else {
                 Step::Finish(Form::If)
             }
@@ -312,7 +359,10 @@ pub fn next_step(tokens: &[Token], at: usize, rest: Rest) -> Step
         Rest::Return => Step::Eat(Code::Word(Word::Return), Rest::ReturnValue),
         Rest::ReturnValue => {
             if sees(tokens, at, Code::Punctuator(Punctuator::Semicolon)) {
-                Step::Eat(Code::Punctuator(Punctuator::Semicolon), Rest::Done(Form::Return))
+                Step::Eat(
+                    Code::Punctuator(Punctuator::Semicolon),
+                    Rest::Done(Form::Return),
+                )
             } else {
                 Step::Read(
                     Mode::Free,
@@ -321,7 +371,11 @@ pub fn next_step(tokens: &[Token], at: usize, rest: Rest) -> Step
                 )
             }
         }
-        Rest::Plain => Step::Read(Mode::Free, Goal::Expression(Slot::Expression), Rest::PlainEnd),
+        Rest::Plain => Step::Read(
+            Mode::Free,
+            Goal::Expression(Slot::Expression),
+            Rest::PlainEnd,
+        ),
         Rest::PlainEnd => {
             if sees(tokens, at, Code::Punctuator(Punctuator::Colon)) {
                 Step::Eat(
@@ -329,7 +383,10 @@ pub fn next_step(tokens: &[Token], at: usize, rest: Rest) -> Step
                     Rest::Last(Mode::Free, Goal::Statement, Form::Labeled),
                 )
             } else {
-                Step::Eat(Code::Punctuator(Punctuator::Semicolon), Rest::Done(Form::ExprStmt))
+                Step::Eat(
+                    Code::Punctuator(Punctuator::Semicolon),
+                    Rest::Done(Form::ExprStmt),
+                )
             }
         }
         Rest::For => Step::Eat(Code::Word(Word::For), Rest::ForOpen),
@@ -354,19 +411,37 @@ pub fn next_step(tokens: &[Token], at: usize, rest: Rest) -> Step
         ),
         Rest::ForTest(init) => {
             if sees(tokens, at, Code::Punctuator(Punctuator::Semicolon)) {
-                Step::Eat(Code::Punctuator(Punctuator::Semicolon), Rest::ForUpdate(init, false))
+                Step::Eat(
+                    Code::Punctuator(Punctuator::Semicolon),
+                    Rest::ForUpdate(init, false),
+                )
             } else {
-                Step::Read(Mode::Free, Goal::Expression(Slot::Expression), Rest::ForSecond(init))
+                Step::Read(
+                    Mode::Free,
+                    Goal::Expression(Slot::Expression),
+                    Rest::ForSecond(init),
+                )
             }
         }
         Rest::ForSecond(init) => {
-            Step::Eat(Code::Punctuator(Punctuator::Semicolon), Rest::ForUpdate(init, true))
+            Step::Eat(
+                Code::Punctuator(Punctuator::Semicolon),
+                Rest::ForUpdate(init, true),
+            )
         }
         Rest::ForUpdate(init, test) => {
             if sees(tokens, at, Code::Punctuator(Punctuator::CloseParen)) {
                 Step::Eat(
                     Code::Punctuator(Punctuator::CloseParen),
-                    Rest::Last(Mode::Free, Goal::Statement, Form::For { init, test, update: false }),
+                    Rest::Last(
+                        Mode::Free,
+                        Goal::Statement,
+                        Form::For {
+                            init,
+                            test,
+                            update: false,
+                        },
+                    ),
                 )
             } else {
                 Step::Read(
@@ -376,7 +451,11 @@ pub fn next_step(tokens: &[Token], at: usize, rest: Rest) -> Step
                         Code::Punctuator(Punctuator::CloseParen),
                         Mode::Free,
                         Goal::Statement,
-                        Form::For { init, test, update: true },
+                        Form::For {
+                            init,
+                            test,
+                            update: true,
+                        },
                     ),
                 )
             }
@@ -397,7 +476,11 @@ pub fn next_step(tokens: &[Token], at: usize, rest: Rest) -> Step
                 )
             }
         }
-        Rest::ComputedKey => Step::Read(Mode::Free, Goal::Expression(Slot::Assignment), Rest::KeyClose),
+        Rest::ComputedKey => Step::Read(
+            Mode::Free,
+            Goal::Expression(Slot::Assignment),
+            Rest::KeyClose,
+        ),
         Rest::KeyClose => Step::Eat(
             Code::Punctuator(Punctuator::CloseBracket),
             Rest::TokenLast(
@@ -411,13 +494,20 @@ pub fn next_step(tokens: &[Token], at: usize, rest: Rest) -> Step
         Rest::Names(declared) => Step::Read(Mode::Free, Goal::Name, Rest::Bound(declared)),
         Rest::Bound(declared) => {
             if sees(tokens, at, Code::AssignOperator(AssignOperator::Assign)) {
-                Step::Eat(Code::AssignOperator(AssignOperator::Assign), Rest::Value(declared))
+                Step::Eat(
+                    Code::AssignOperator(AssignOperator::Assign),
+                    Rest::Value(declared),
+                )
             } else {
                 more_names(tokens, at, declared)
             }
         }
         Rest::Value(declared) => {
-            Step::Read(Mode::Same, Goal::Expression(Slot::Assignment), Rest::MoreNames(declared))
+            Step::Read(
+                Mode::Same,
+                Goal::Expression(Slot::Assignment),
+                Rest::MoreNames(declared),
+            )
         }
         Rest::MoreNames(declared) => more_names(tokens, at, declared),
     }

@@ -10,6 +10,7 @@ ghost use Rattle.grammar.specs.Site.{Attr, isExpression};
 ghost use Rattle.grammar.specs.Layout.{sortOf};
 ghost use Rattle.reader.specs.Table.{view, doOf, goalOf, modeOf, turnOf};
 ghost use Rattle.reader.specs.Reads.{standingOf, Parsed, NotParsed, Made, NotMade, Onward, Eaten};
+ghost use Rattle.reader.specs.Width.{Scripted, NotScript, refusedOf};
 use crate::begin::begin;
 use crate::found::Found;
 use crate::found::Parts;
@@ -25,6 +26,7 @@ use crate::found::suits;
 use crate::glance::token_at;
 use crate::goal::Goal;
 use crate::goal::Mode;
+use crate::rest::Body;
 use crate::rest::Rest;
 use crate::step::Step;
 use crate::step::next_step;
@@ -67,7 +69,12 @@ fn taken(left: Found, turn: Turn, slot: Slot, allow_in: bool) -> bool
     if !suits(left, first_slot(turn)) {
         return false;
     }
-    fits(slot, grown(turn, is_chain(left)), is_call(left), is_target(left))
+    fits(
+        slot,
+        grown(turn, is_chain(left)),
+        is_call(left),
+        is_target(left),
+    )
 }
 
 /// Whether what was read for the goal goes on with the token behind it.
@@ -76,7 +83,8 @@ fn goes_on(tokens: &[Token], left: Found, goal: Goal, allow_in: bool) -> bool
     ensures { λ r. ⌜ Onward (now (tokens .entry)) «allow_in» (goalOf goal) left r ⌝ }
 {
     match goal {
-        Goal::Expression(slot) => is_expression(left.form) && taken(left, turn_at(tokens, left.end), slot, allow_in),
+        Goal::Expression(slot) => is_expression(left.form)
+            && taken(left, turn_at(tokens, left.end), slot, allow_in),
         _ => false,
     }
 }
@@ -106,7 +114,13 @@ fn eaten(tokens: &[Token], parts: Parts, code: Code) -> Option<Parts>
 
 /// A record: what is left to read of it, from `begun` on, with its parts in `start`; its other children nest at most
 /// `inner` deep.
-fn record(tokens: &[Token], begun: Rest, start: Parts, allow_in: bool, inner: usize) -> Result<Found, Unread>
+fn record(
+    tokens: &[Token],
+    begun: Rest,
+    start: Parts,
+    allow_in: bool,
+    inner: usize,
+) -> Result<Found, Unread>
     requires within { ⌜ start .end ≤ length (now tokens) ⌝ }
     requires few { ⌜ start .size ≤ start .end ⌝ }
     requires nests { ⌜ start .depth ≤ start .size ⌝ }
@@ -135,17 +149,64 @@ fn record(tokens: &[Token], begun: Rest, start: Parts, allow_in: bool, inner: us
 }
 
 /// A tree for the goal, at `at`, that nests at most `room` deep but for what stands left of an operator.
-fn tree(tokens: &[Token], at: usize, goal: Goal, allow_in: bool, room: usize) -> Result<Found, Unread>
+fn tree(
+    tokens: &[Token],
+    at: usize,
+    goal: Goal,
+    allow_in: bool,
+    room: usize,
+) -> Result<Found, Unread>
     requires { ⌜ at ≤ length (now tokens) ⌝ }
     ensures { λ r. ⌜ Cases r (λ f. Parsed (now (tokens .entry)) at «allow_in» (goalOf goal) f) (λ e. NotParsed (now (tokens .entry)) at «allow_in» (goalOf goal) room e) ⌝ }
 {
     if room == 0 {
         return Err(Unread::TooDeep);
     }
-    let mut found = record(tokens, begin(tokens, at, goal), start_at(tokens, at), allow_in, room - 1)?;
+    let mut found = record(
+        tokens,
+        begin(tokens, at, goal),
+        start_at(tokens, at),
+        allow_in,
+        room - 1,
+    )?;
     while goes_on(tokens, found, goal, allow_in) {
         let rest = behind(turn_at(tokens, found.end), is_chain(found));
         found = record(tokens, rest, start_with(found), allow_in, room - 1)?;
+    }
+    Ok(found)
+}
+
+/// Why a list of `len` tokens is refused, when its script is refused so: one of fewer than 500 tokens is never too deep.
+fn refused(len: usize, why: Unread) -> Unread
+    ensures { λ r. ⌜ r ≡ refusedOf len why ⌝ }
+{
+    match why {
+        Unread::NoDerivation => Unread::NoDerivation,
+        Unread::TooDeep => {
+            if len < 500 {
+                Unread::NoDerivation
+            } else {
+                Unread::TooDeep
+            }
+        }
+    }
+}
+
+/// The script that the tokens are, as far as their order decides: whether each child may stand where it stands is not
+/// looked at.
+fn script(tokens: &[Token]) -> Result<Found, Unread>
+    ensures { λ r. ⌜ Cases r (λ f. Scripted (now (tokens .entry)) f) (λ e. NotScript (now (tokens .entry)) e) ⌝ }
+{
+    let start = start_at(tokens, 0);
+    let found = match record(tokens, Rest::Statements(Body::Script), start, true, 511) {
+        Ok(found) => found,
+        Err(why) => return Err(refused(tokens.len(), why)),
+    };
+    if found.end < tokens.len() {
+        return Err(Unread::NoDerivation);
+    }
+    if found.under > 511 {
+        return Err(Unread::TooDeep);
     }
     Ok(found)
 }

@@ -205,7 +205,8 @@ pub fn left_slot(operator: BinaryOperator) -> Slot
         | BinaryOperator::RightShift
         | BinaryOperator::UnsignedRightShift => Slot::Shift,
         BinaryOperator::Add | BinaryOperator::Subtract => Slot::Additive,
-        BinaryOperator::Multiply | BinaryOperator::Divide | BinaryOperator::Remainder => Slot::Multiplicative,
+        BinaryOperator::Multiply | BinaryOperator::Divide | BinaryOperator::Remainder =>
+            Slot::Multiplicative,
         BinaryOperator::Exponent => Slot::Update,
     }
 }
@@ -300,20 +301,31 @@ pub fn behind(turn: Turn, chained: bool) -> Rest
             Goal::Expression(Slot::Assignment),
             Form::Assign(operator),
         ),
-        Turn::Counts(operator) => Rest::Token(update_code(operator), Form::Update(operator, Side::After)),
+        Turn::Counts(operator) => Rest::Token(
+            update_code(operator),
+            Form::Update(operator, Side::After),
+        ),
         Turn::Separates => Rest::Comma,
         Turn::Asks => Rest::Question,
         Turn::Names => Rest::TokenLast(
             Code::Punctuator(Punctuator::Dot),
             Mode::Free,
             Goal::Expression(Slot::Identifier),
-            linked(chained, Form::Chain(Link::Name, Entry::Tail), Form::Member(Key::Fixed)),
+            linked(
+                chained,
+                Form::Chain(Link::Name, Entry::Tail),
+                Form::Member(Key::Fixed),
+            ),
         ),
         Turn::Keys => Rest::Enclosed(
             Code::Punctuator(Punctuator::OpenBracket),
             Goal::Expression(Slot::Expression),
             Code::Punctuator(Punctuator::CloseBracket),
-            linked(chained, Form::Chain(Link::Key, Entry::Tail), Form::Member(Key::Computed)),
+            linked(
+                chained,
+                Form::Chain(Link::Key, Entry::Tail),
+                Form::Member(Key::Computed),
+            ),
         ),
         Turn::Calls => Rest::Open(List::Arguments(linked(
             chained,
@@ -335,8 +347,16 @@ pub fn grown(turn: Turn, chained: bool) -> Form
         Turn::Counts(operator) => Form::Update(operator, Side::After),
         Turn::Separates => Form::Seq,
         Turn::Asks => Form::Cond,
-        Turn::Names => linked(chained, Form::Chain(Link::Name, Entry::Tail), Form::Member(Key::Fixed)),
-        Turn::Keys => linked(chained, Form::Chain(Link::Key, Entry::Tail), Form::Member(Key::Computed)),
+        Turn::Names => linked(
+            chained,
+            Form::Chain(Link::Name, Entry::Tail),
+            Form::Member(Key::Fixed),
+        ),
+        Turn::Keys => linked(
+            chained,
+            Form::Chain(Link::Key, Entry::Tail),
+            Form::Member(Key::Computed),
+        ),
         Turn::Calls => linked(chained, Form::Chain(Link::Call, Entry::Tail), Form::Call),
         Turn::Links => Form::Chain(Link::Name, Entry::Optional),
         Turn::Ends | Turn::Cannot => Form::Empty,
