@@ -1,6 +1,6 @@
 -- The loop over the steps of a record.
 use mathlib.Core.Path.{_≡_, refl, sym, _∙_, ap, subst}
-use mathlib.Core.List.{List, [], _∷_}
+use mathlib.Core.List.{List, [], _∷_, _++_, append-assoc}
 use mathlib.Core.Bool.{Bool, true, false, cond}
 use mathlib.Core.Option.{Option, none, some, Option·none-ne-some}
 use Prim.Native.Nat.{ℕ, zero, suc, _+_, _≤_, _<_, max}
@@ -16,6 +16,9 @@ use Rattle.grammar.specs.Layout.{attr, attrs, firstStanding}
 use Rattle.grammar.specs.Parser.{Goal, Mode, mode, Do, fail, fin, eat, sub, settle, starts, Ran, ran, bind, exec, parse, perform}
 use Rattle.reader.specs.Table.{view}
 use Rattle.reader.specs.Reads.{standingOf, Started, Alone, Joined, Completed, Behind, own, Reads, Runs, noKids, Shape, Holds, Shaped, Bad, Parsed, NotParsed, Made, NotMade, graft, Carried}
+use Rattle.reader.specs.Post.{kids, nodeAt, nodeIn, post, posts, Sunk}
+use Rattle.reader.specs.declared.sink.Node.{Node}
+use Rattle.reader.proofs.Sinks.{sunk-then, sunk-none, append-nil, posts-last}
 use Rattle.reader.specs.declared.found.Found.{Found}
 use Rattle.reader.specs.declared.found.Parts.{Parts}
 use Rattle.reader.specs.declared.tree.Unread.{Unread}
@@ -36,6 +39,10 @@ sizes-last : (us : Forest) (t : Tree) → sizes (us ⊕ (t ▸ nil)) ≡ sizes u
 unfolding sizes
 sizes-last nil t = omega arith
 sizes-last (u ▸ us) t = omega (arith, sizes-last us t)
+
+kids-last : (us : Forest) (t : Tree) → kids (us ⊕ (t ▸ nil)) ≡ kids us + 1
+kids-last nil t = omega arith
+kids-last (u ▸ us) t = omega (arith, kids-last us t)
 
 depths-last : (us : Forest) (t : Tree) → depths (us ⊕ (t ▸ nil)) ≡ max (depths us) (depth t)
 unfolding depths
@@ -111,8 +118,8 @@ sub-inv m b s h ks d q s2 y e g =
     the-same a c i = cc
 
 -- What the parts hold.
-holds-same : (us : Forest) (p q : Parts) → q .childless ≡ p .childless → q .«over_call» ≡ p .«over_call» → q .«over_target» ≡ p .«over_target» → q .size ≡ p .size → q .depth ≡ p .depth → Holds us p → Holds us q
-holds-same us p q a b c d e h = record { childless = h .childless ∙ sym a; call = h .call ∙ sym b; target = h .target ∙ sym c; records = h .records ∙ sym d; nests = h .nests ∙ sym e }
+holds-same : (us : Forest) (p q : Parts) → q .childless ≡ p .childless → q .«over_call» ≡ p .«over_call» → q .«over_target» ≡ p .«over_target» → q .size ≡ p .size → q .depth ≡ p .depth → q .count ≡ p .count → Holds us p → Holds us q
+holds-same us p q a b c d e g h = record { counts = h .counts ∙ sym g; childless = h .childless ∙ sym a; call = h .call ∙ sym b; target = h .target ∙ sym c; records = h .records ∙ sym d; nests = h .nests ∙ sym e }
 
 holds-join : (us : Forest) (t : Tree) (p q : Parts) (f : Found) → Holds us p → Shape t f → Joined p f q → Holds (us ⊕ (t ▸ nil)) q
 unfolding attr
@@ -123,6 +130,7 @@ holds-join nil t p q f h s j =
       target = sym (j .target ∙ rw (sym (h .childless)) (ap isTarget (sym (s .stands))));
       records = sizes-last nil t ∙ omega (arith, h .records, s .records, j .records);
       nests = depths-last nil t ∙ rw (h .nests, s .nests, j .nests) (ap (λ (k : ℕ). max (p .depth) k) (omega arith));
+      counts = omega (arith, kids-last nil t, h .counts, j .counts);
     }
 holds-join (u ▸ us) t p q f h s j =
     record {
@@ -131,18 +139,22 @@ holds-join (u ▸ us) t p q f h s j =
       target = sym (j .target ∙ rw (sym (h .childless)) (sym (h .target)));
       records = sizes-last (u ▸ us) t ∙ omega (arith, h .records, s .records, j .records);
       nests = depths-last (u ▸ us) t ∙ rw (h .nests, s .nests, j .nests) (ap (λ (k : ℕ). max (p .depth) k) (omega arith));
+      counts = omega (arith, kids-last (u ▸ us) t, h .counts, j .counts);
     }
+
+node-same : (p : Parts) (g : Form) (f : Found) → Completed p g f → nodeIn p g ≡ nodeAt f (p .count)
+node-same p g f x = rw (x .form, x .lo, x .hi) refl
 
 bad-le : (e : Unread) (i d b : ℕ) → Bad e i d → d ≤ b → Bad e i b
 bad-le NoDerivation i d b h le = h
 bad-le TooDeep i d b h le = omega arith
 
-module _ (ts : List Token) (b : Bool) where
-  pub carried-none : (s : Do) (p : Parts) → p .end ≤ length ts → p .depth ≤ p .size → Carried ts b s p s p
-  carried-none s p w n = record { few = omega arith; fewer = omega arith; nests = n; within = w; lo = refl; run = (nil, λ ws h. subst (λ (us : Forest). Holds us p) (sym (join-nil ws)) h, (0, λ m le. (m, omega arith, graft-nil (perform m b s (p .hi) (view ts (p .end)))))) }
+module _ {K : Type 0} (ts : List Token) (b : Bool) where
+  pub carried-none : (E : K → List Node → Type 0) (s : Do) (p : Parts) → p .end ≤ length ts → p .depth ≤ p .size → p .count ≤ p .size → Carried ts b s p E E s p
+  carried-none E s p w n ct = record { sunk = sunk-none (λ k ys h. h); counted = ct; few = omega arith; fewer = omega arith; nests = n; within = w; lo = refl; run = (nil, λ ws h. subst (λ (us : Forest). Holds us p) (sym (join-nil ws)) h, (0, λ m le. (m, omega arith, graft-nil (perform m b s (p .hi) (view ts (p .end)))))) }
 
-  module _ (s0 : Do) (p0 : Parts) (s : Do) (p : Parts) (c : Carried ts b s0 p0 s p) where
-    pub carried-eat : (k : Code) (s2 : Do) (q : Parts) → settle s (view ts (p .end)) ≡ eat k s2 → Behind ts p k q → Carried ts b s0 p0 s2 q
+  module _ (s0 : Do) (p0 : Parts) (E M : K → List Node → Type 0) (s : Do) (p : Parts) (c : Carried ts b s0 p0 E M s p) where
+    pub carried-eat : (k : Code) (s2 : Do) (q : Parts) → settle s (view ts (p .end)) ≡ eat k s2 → Behind ts p k q → Carried ts b s0 p0 E M s2 q
     carried-eat k s2 q e x =
         let (us, h, (m0, g)) = c .run in
         let (tk, v, sm, hi) = x .next in
@@ -150,24 +162,28 @@ module _ (ts : List Token) (b : Bool) where
           few = omega (arith, c .few, x .records, x .end, own-one s);
           fewer = omega (arith, c .fewer, x .records, x .end);
           nests = omega (arith, c .nests, x .records, x .nests);
+          counted = omega (arith, c .counted, x .records, x .counts);
+          sunk = c .sunk;
           within = omega (arith, x .within, x .end);
           lo = x .lo ∙ c .lo;
           run = (
             us,
-            λ ws hw. holds-same (ws ⊕ us) p q (x .childless) (x .call) (x .target) (x .records) (x .nests) (h ws hw),
+            λ ws hw. holds-same (ws ⊕ us) p q (x .childless) (x .call) (x .target) (x .records) (x .nests) (x .counts) (h ws hw),
             (m0, λ m le. let (n, l, w) = g (suc m) (omega arith) in (n, omega arith, w ∙ ap (graft us) (step-eat m b s (p .hi) (view ts (p .end)) k s2 tk (view ts (p .end + 1)) e v sm ∙ rw (hi, x .end) refl))),
           );
         }
 
-    pub carried-read : (d : Mode) (g : Goal) (s2 : Do) (f : Found) (q : Parts) → settle s (view ts (p .end)) ≡ sub d g s2 → Parsed ts (p .end) (mode d b) g f → Joined p f q → Carried ts b s0 p0 s2 q
-    carried-read d g s2 f q e x j =
+    pub carried-read : (X : K → List Node → Type 0) (d : Mode) (g : Goal) (s2 : Do) (f : Found) (q : Parts) → settle s (view ts (p .end)) ≡ sub d g s2 → Parsed ts (p .end) (mode d b) g M X f → Joined p f q → Carried ts b s0 p0 E X s2 q
+    carried-read X d g s2 f q e x j =
         let (us, h, (m0, w)) = c .run in
-        let (t, sh, (m1, r)) = x .tree in
+        let (t, sh, (m1, r), sk) = x .tree in
         let big : own s ≤ own s2 = subst (λ (z : Do). own s ≤ own z) e (own-settle s (view ts (p .end))) in
         record {
           few = omega (arith, c .few, x .few, j .records, j .end, big);
           fewer = omega (arith, c .fewer, x .few, j .records, j .end);
           nests = omega (arith, c .nests, x .nests, j .records, j .nests);
+          counted = omega (arith, c .counted, j .records, j .counts);
+          sunk = subst (λ (zs : List Node). Sunk E X zs) (sym (posts-last us t)) (sunk-then (c .sunk) sk);
           within = omega (arith, x .within, j .end);
           lo = j .lo ∙ c .lo;
           run = (
@@ -186,8 +202,8 @@ module _ (ts : List Token) (b : Bool) where
           );
         }
 
-    pub made : (g : Form) (f : Found) → settle s (view ts (p .end)) ≡ fin g → Completed p g f → Made ts b s0 p0 f
-    made g f e x =
+    pub made : (X : K → List Node → Type 0) (g : Form) (f : Found) → settle s (view ts (p .end)) ≡ fin g → Completed p g f → Sunk M X (nodeIn p g ∷ []) → Made ts b s0 p0 E X f
+    made X g f e x sk =
         let (us, h, (m0, w)) = c .run in
         let (n, l, y) = w (suc m0) (omega arith) in
         let big : own s ≤ 0 = subst (λ (z : Do). own s ≤ own z) e (own-settle s (view ts (p .end))) in
@@ -196,6 +212,7 @@ module _ (ts : List Token) (b : Bool) where
           few = omega (arith, c .few, x .records, x .end, big);
           nests = omega (arith, c .nests, x .records, x .nests);
           within = omega (arith, c .within, x .end);
+          sunk = (p .count, λ ws hw. h ws hw .counts, sunk-then (c .sunk) (subst (λ (z : Node). Sunk M X (z ∷ [])) (node-same p g f x) sk));
           lo = x .lo ∙ c .lo;
           run = (
             us,

@@ -29,7 +29,9 @@ use Rattle.reader.specs.declared.tree.Unread.{Unread}
 use Rattle.reader.specs.declared.tree.Unread.the-variants.{NoDerivation, TooDeep}
 use Rattle.reader.proofs.Fuel.{raise-P, bind-inv, some-one}
 use Rattle.reader.proofs.Width.{width, depths-sizes}
-use Rattle.reader.proofs.Trees.{shape-node, holds-nil}
+use Rattle.reader.proofs.Trees.{shape-node, holds-nil, post-node}
+use Rattle.reader.specs.Post.{post, Sunk}
+use Rattle.reader.specs.declared.sink.Node.{Node}
 
 -- The reading of a script is what the grammar's reader finds.
 cond-some : {A : Type 0} (b : Bool) (x y : A) → cond b (some x) none ≡ some y → T b × (x ≡ y)
@@ -99,7 +101,7 @@ module _ (ts : List Token) (p : Parts) (st : Started ts 0 p) where
   refuse NoDerivation nm = no-script nm
   refuse TooDeep nm = refuse-by nm (ltb (length ts) 500) refl
 
-  module _ (f : Found) (m : Made ts true (stms (fin form.Script)) p f) where
+  module _ {K : Type 0} (E X : K → List Node → Type 0) (f : Found) (m : Made ts true (stms (fin form.Script)) p E X f) where
     abbrev t0 : Tree
     t0 = node (head (f .form) (loOf ts) (f .hi)) (m .run .0)
 
@@ -124,6 +126,10 @@ module _ (ts : List Token) (p : Parts) (st : Started ts 0 p) where
         let e = some-one (u, []) (t0, view ts (f .end)) (sym c ∙ a) in
         (ap (λ (x : Tree × List Token). x .0) e, ap (λ (x : Tree × List Token). x .1) e)
 
+    sunk : Sunk E X (post t0)
+    unfolding view
+    sunk = subst (λ (zs : List Node). Sunk E X zs) (sym (post-node (m .run .0) f (loOf ts) (m .sunk .0) (sym (m .lo ∙ rw (st .lo) refl)) (m .sunk .1 nil (holds-nil ts 0 p st)))) (m .sunk .2)
+
     pub left-over : f .end < length ts → NotScript ts NoDerivation
     unfolding view
     left-over lt u d = let e : length {A = Token} [] ≡ length (drop (f .end) ts) = ap length (only u d .1) in absurd (omega (arith, e, length-drop (f .end) ts))
@@ -131,6 +137,6 @@ module _ (ts : List Token) (p : Parts) (st : Started ts 0 p) where
     pub too-deep : 511 < f .under → NotScript ts TooDeep
     too-deep lt = (omega (arith, m .few, m .nests, m .within, st .records, st .end), λ u d. subst (λ (t : Tree). 512 < depth t) (sym (only u d .0)) (omega (arith, shaped .nests)))
 
-    pub scripted : length ts ≤ f .end → f .under ≤ 511 → Scripted ts f
+    pub scripted : length ts ≤ f .end → f .under ≤ 511 → Scripted ts E X f
     unfolding view
-    scripted le un = record { tree = (t0, shaped, omega (arith, shaped .nests), subst (λ (r : List Token). Reads true scr ts t0 r) (drop-of-length-le ts le) scr-reads, λ u d. only u d .0) }
+    scripted le un = record { tree = (t0, shaped, omega (arith, shaped .nests), subst (λ (r : List Token). Reads true scr ts t0 r) (drop-of-length-le ts le) scr-reads, λ u d. only u d .0, sunk) }

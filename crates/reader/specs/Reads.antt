@@ -5,13 +5,13 @@
 --   Shape t f, Holds us p, Shaped us f     what is kept of a tree, of children, of a record over children
 --   Bad e room d          what a refusal says of a tree of the depth d, where room is allowed
 --   Parsed NotParsed Made NotMade     the promises of the two functions that call each other
---   Carried Reached       what holds in their loops
+--   Carried Climbed       what holds in their loops
 --
 -- Assumes nothing.
 use Prim.Native.Nat.{ℕ, _+_, _≤_, _<_, max}
 use mathlib.Core.Path.{_≡_}
 use mathlib.Core.Bool.{Bool, true, false, cond, _&&_}
-use mathlib.Core.List.{List, [], _∷_}
+use mathlib.Core.List.{List, [], _∷_, _++_}
 use mathlib.Core.Option.{Option, none, some}
 use lib.Dec.{T, eqb}
 use lib.ListN.{length}
@@ -28,6 +28,8 @@ use Rattle.grammar.specs.Layout.{attr, attrs, sortOf, firstStanding}
 use Rattle.grammar.specs.Derives.{loOf}
 use Rattle.grammar.specs.Parser.{Goal, Do, fail, fin, eat, sub, peek, more, items, stms, operand, names, behind, Ran, ran, parse, loop, perform, goesOn, frame, next, starts}
 use Rattle.reader.specs.Table.{view, goalOf, doOf}
+use Rattle.reader.specs.Post.{kids, nodeAt, post, posts, Sunk}
+use Rattle.reader.specs.declared.sink.Node.{Node}
 use Rattle.reader.specs.declared.goal.Goal.{Goal as GoalR}
 use Rattle.reader.specs.declared.rest.Rest.{Rest}
 use Rattle.reader.specs.declared.found.Found.{Found}
@@ -50,6 +52,7 @@ pub record Started (ts : List Token) (i : ℕ) (p : Parts) : Type 0 where
   pub end : p .end ≡ i
   pub records : p .size ≡ 0
   pub nests : p .depth ≡ 0
+  pub counts : p .count ≡ 0
 
 pub record Alone (f : Found) (p : Parts) : Type 0 where
   pub childless : p .childless ≡ false
@@ -60,6 +63,7 @@ pub record Alone (f : Found) (p : Parts) : Type 0 where
   pub end : p .end ≡ f .end
   pub records : p .size ≡ f .below + 1
   pub nests : p .depth ≡ f .under + 1
+  pub counts : p .count ≡ 1
 
 pub record Joined (p : Parts) (f : Found) (q : Parts) : Type 0 where
   pub childless : q .childless ≡ false
@@ -70,6 +74,7 @@ pub record Joined (p : Parts) (f : Found) (q : Parts) : Type 0 where
   pub end : q .end ≡ f .end
   pub records : q .size ≡ p .size + f .below + 1
   pub nests : q .depth ≡ max (p .depth) (f .under + 1)
+  pub counts : q .count ≡ p .count + 1
 
 pub record Completed (p : Parts) (g : Form) (f : Found) : Type 0 where
   pub form : f .form ≡ g
@@ -121,6 +126,7 @@ pub record Holds (us : Forest) (p : Parts) : Type 0 where
   pub target : isTarget (firstStanding (attrs us)) ≡ p .«over_target»
   pub records : sizes us ≡ p .size
   pub nests : depths us ≡ p .depth
+  pub counts : kids us ≡ p .count
 
 pub record Shaped (us : Forest) (f : Found) : Type 0 where
   pub call : isC (firstStanding (attrs us)) ≡ f .«over_call»
@@ -132,21 +138,22 @@ abbrev pub Bad : Unread → ℕ → ℕ → Type 0
 Bad NoDerivation room d = ⊥
 Bad TooDeep room d = room < d
 
-pub record Parsed (ts : List Token) (i : ℕ) (b : Bool) (q : Goal) (f : Found) : Type 0 where
+pub record Parsed {K : Type 0} (ts : List Token) (i : ℕ) (b : Bool) (q : Goal) (E X : K → List Node → Type 0) (f : Found) : Type 0 where
   pub few : i + f .below < f .end
   pub nests : f .under ≤ f .below
   pub within : f .end ≤ length ts
-  pub tree : (t : Tree) × Shape t f × Reads b q (view ts i) t (view ts (f .end))
+  pub tree : (t : Tree) × Shape t f × Reads b q (view ts i) t (view ts (f .end)) × Sunk E X (post t)
 
 abbrev pub NotParsed : List Token → ℕ → Bool → Goal → ℕ → Unread → Type 0
 NotParsed ts i b q room e = (n : ℕ) (t : Tree) (r : List Token) → parse n b q (view ts i) ≡ some (t, r) → Bad e room (depth t)
 
-pub record Made (ts : List Token) (b : Bool) (s : Do) (p : Parts) (f : Found) : Type 0 where
+pub record Made {K : Type 0} (ts : List Token) (b : Bool) (s : Do) (p : Parts) (E X : K → List Node → Type 0) (f : Found) : Type 0 where
   pub few : f .below + p .end + own s ≤ p .size + f .end
   pub nests : f .under ≤ f .below
   pub within : f .end ≤ length ts
   pub lo : f .lo ≡ p .lo
   pub run : (us : Forest) × Runs b s (p .hi) (view ts (p .end)) (ran (f .form) us (f .hi) (view ts (f .end))) × ((ws : Forest) → Holds ws p → Shaped (ws ⊕ us) f)
+  pub sunk : (a : ℕ) × ((ws : Forest) → Holds ws p → kids (ws ⊕ run .0) ≡ a) × Sunk E X (posts (run .0) ++ nodeAt f a ∷ [])
 
 abbrev pub NotMade : List Token → Bool → Do → Parts → ℕ → Unread → Type 0
 NotMade ts b s p room e = (n : ℕ) (y : Ran) → perform n b s (p .hi) (view ts (p .end)) ≡ some y → Bad e room (depths (y .kids))
@@ -156,20 +163,30 @@ graft us none = none
 graft us (some y) = some (ran (y .form) (us ⊕ y .kids) (y .upto) (y .left))
 
 -- Since the loop began at p0 with s0 to do: the children us have come, and s is left to do at p.
-pub record Carried (ts : List Token) (b : Bool) (s0 : Do) (p0 : Parts) (s : Do) (p : Parts) : Type 0 where
+pub record Carried {K : Type 0} (ts : List Token) (b : Bool) (s0 : Do) (p0 : Parts) (E X : K → List Node → Type 0) (s : Do) (p : Parts) : Type 0 where
   pub few : p .size + p0 .end + own s0 ≤ p0 .size + p .end + own s
   pub fewer : p .size + p0 .end ≤ p0 .size + p .end
   pub nests : p .depth ≤ p .size
+  pub counted : p .count ≤ p .size
   pub within : p .end ≤ length ts
   pub lo : p .lo ≡ p0 .lo
   pub run : (us : Forest) × ((ws : Forest) → Holds ws p0 → Holds (ws ⊕ us) p) × ((k : ℕ) × ((m : ℕ) → k ≤ m → (n : ℕ) × (m ≤ n) × (perform n b s0 (p0 .hi) (view ts (p0 .end)) ≡ graft us (perform m b s (p .hi) (view ts (p .end))))))
+  pub sunk : Sunk E X (posts (run .0))
 
 -- What the grammar's reader finds at i is what it finds behind the tree so far.
-pub record Reached (ts : List Token) (i : ℕ) (b : Bool) (q : Goal) (f : Found) : Type 0 where
+pub record Reached {K : Type 0} (ts : List Token) (i : ℕ) (b : Bool) (q : Goal) (E X : K → List Node → Type 0) (f : Found) : Type 0 where
   pub few : i + f .below < f .end
   pub nests : f .under ≤ f .below
   pub within : f .end ≤ length ts
   pub tree : (t : Tree) × Shape t f × ((k : ℕ) × ((m : ℕ) → k ≤ m → (n : ℕ) × (m ≤ n) × (parse n b q (view ts i) ≡ loop m b q t (view ts (f .end)))))
+  pub sunk : Sunk E X (post (tree .0))
+
+-- Since the loop began, with f0: what the grammar's reader finds behind f0 is what it finds behind the tree so far.
+pub record Climbed {K : Type 0} (ts : List Token) (i : ℕ) (b : Bool) (q : Goal) (E X : K → List Node → Type 0) (f0 f : Found) : Type 0 where
+  pub few : i + f .below < f .end
+  pub nests : f .under ≤ f .below
+  pub within : f .end ≤ length ts
+  pub tree : (t0 : Tree) → Shape t0 f0 → (t : Tree) × Shape t f × ((k : ℕ) × ((m : ℕ) → k ≤ m → (n : ℕ) × (m ≤ n) × (loop n b q t0 (view ts (f0 .end)) ≡ loop m b q t (view ts (f .end))))) × ((zs : List Node) × (post t ≡ post t0 ++ zs) × Sunk E X zs)
 
 -- Whether a tree of the shape f goes on behind f.
 abbrev pub Onward : List Token → Bool → Goal → Found → Bool → Type 0
@@ -186,6 +203,7 @@ pub record Behind (ts : List Token) (p : Parts) (c : Code) (q : Parts) : Type 0 
   pub lo : q .lo ≡ p .lo
   pub records : q .size ≡ p .size
   pub nests : q .depth ≡ p .depth
+  pub counts : q .count ≡ p .count
 
 abbrev pub Eaten : List Token → Parts → Code → OptionR Parts → Type 0
 Eaten ts p c None = starts c (view ts (p .end)) ≡ false

@@ -8,7 +8,9 @@ ghost use Rattle.kinds.specs.Levels.{fits, isC, isO, isTarget};
 ghost use Rattle.grammar.specs.Derives.{loOf};
 ghost use Rattle.grammar.specs.Tree.{nil};
 ghost use Rattle.reader.specs.Table.{view};
+ghost use Rattle.reader.specs.Post.{nodeIn};
 ghost use Rattle.reader.specs.Reads.{standingOf, Started, Alone, Joined, Completed, Expr};
+use crate::sink::Node;
 use kinds::Form;
 use kinds::Slot;
 use kinds::level::fits;
@@ -29,8 +31,8 @@ pub struct Found {
 }
 
 /// A record's children as far as they are read: whether there is none yet, what the first is (as above), where the
-/// record begins and where the last token read ends, where the tokens behind it begin, and the number and nesting of
-/// the children's records.
+/// record begins and where the last token read ends, where the tokens behind it begin, the number and nesting of
+/// the children's records, and the number of children.
 #[derive(Clone, Copy)]
 pub struct Parts {
     pub childless: bool,
@@ -41,6 +43,7 @@ pub struct Parts {
     pub end: usize,
     pub size: usize,
     pub depth: usize,
+    pub count: usize,
 }
 
 /// Whether the expression may stand bare in the slot.
@@ -110,6 +113,7 @@ pub fn start_at(tokens: &[Token], at: usize) -> Parts
         end: at,
         size: 0,
         depth: 0,
+        count: 0,
     }
 }
 
@@ -128,6 +132,7 @@ pub fn start_with(found: Found) -> Parts
         end: found.end,
         size: found.below + 1,
         depth: found.under + 1,
+        count: 1,
     }
 }
 
@@ -135,6 +140,7 @@ pub fn start_with(found: Found) -> Parts
 pub fn join(parts: Parts, child: Found) -> Parts
     requires few { ⌜ parts .size + child .below < child .end ⌝ }
     requires nests { ⌜ child .under ≤ child .below ⌝ }
+    requires counted { ⌜ parts .count ≤ parts .size ⌝ }
     ensures { λ r. ⌜ Joined parts child r ⌝ }
 {
     let over_call = if parts.childless {
@@ -156,6 +162,7 @@ pub fn join(parts: Parts, child: Found) -> Parts
         end: child.end,
         size: parts.size + child.below + 1,
         depth: parts.depth.max(child.under + 1),
+        count: parts.count + 1,
     }
 }
 
@@ -172,5 +179,17 @@ pub fn complete(parts: Parts, form: Form) -> Found
         end: parts.end,
         below: parts.size,
         under: parts.depth,
+    }
+}
+
+/// The node of the record of this form over all its parts.
+pub fn node(parts: Parts, form: Form) -> Node
+    ensures { λ r. ⌜ r ≡ nodeIn parts form ⌝ }
+{
+    Node {
+        form,
+        arity: parts.count,
+        lo: parts.lo,
+        hi: parts.hi,
     }
 }

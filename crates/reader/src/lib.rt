@@ -5,6 +5,7 @@ pub mod found;
 pub mod glance;
 pub mod goal;
 pub mod rest;
+pub mod sink;
 pub mod step;
 pub mod tree;
 pub mod turn;

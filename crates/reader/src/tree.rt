@@ -20,6 +20,7 @@ use crate::found::is_chain;
 use crate::found::is_expression;
 use crate::found::is_target;
 use crate::found::join;
+use crate::found::node;
 use crate::found::start_at;
 use crate::found::start_with;
 use crate::found::suits;
@@ -28,6 +29,7 @@ use crate::goal::Goal;
 use crate::goal::Mode;
 use crate::rest::Body;
 use crate::rest::Rest;
+use crate::sink::Sink;
 use crate::step::Step;
 use crate::step::next_step;
 use crate::turn::Turn;
@@ -109,29 +111,35 @@ fn eaten(tokens: &[Token], parts: Parts, code: Code) -> Option<Parts>
         end: parts.end + 1,
         size: parts.size,
         depth: parts.depth,
+        count: parts.count,
     })
 }
 
 /// A record: what is left to read of it, from `begun` on, with its parts in `start`; its other children nest at most
 /// `inner` deep.
-fn record(
+fn record<S: Sink>(
     tokens: &[Token],
     begun: Rest,
     start: Parts,
     allow_in: bool,
     inner: usize,
+    sink: &mut S,
 ) -> Result<Found, Unread>
     requires within { ⌜ start .end ≤ length (now tokens) ⌝ }
     requires few { ⌜ start .size ≤ start .end ⌝ }
     requires nests { ⌜ start .depth ≤ start .size ⌝ }
-    ensures { λ r. ⌜ Cases r (λ f. Made (now (tokens .entry)) «allow_in» (doOf begun) start f) (λ e. NotMade (now (tokens .entry)) «allow_in» (doOf begun) start inner e) ⌝ }
+    requires counted { ⌜ start .count ≤ start .size ⌝ }
+    ensures { λ r. ⌜ Cases r (λ f. Made (now (tokens .entry)) «allow_in» (doOf begun) start (since (now (sink .entry))) (since (now (sink .exit))) f) (λ e. NotMade (now (tokens .entry)) «allow_in» (doOf begun) start inner e) ⌝ }
 {
     let mut rest = begun;
     let mut parts = start;
     loop {
         match next_step(tokens, parts.end, rest) {
             Step::Fail => return Err(Unread::NoDerivation),
-            Step::Finish(form) => return Ok(complete(parts, form)),
+            Step::Finish(form) => {
+                sink.put(node(parts, form));
+                return Ok(complete(parts, form));
+            }
             Step::Eat(code, then) => {
                 let Some(next) = eaten(tokens, parts, code) else {
                     return Err(Unread::NoDerivation);
@@ -140,7 +148,14 @@ fn record(
                 rest = then;
             }
             Step::Read(mode, goal, then) => {
-                let child = tree(tokens, parts.end, goal, allowed(mode, allow_in), inner)?;
+                let child = tree(
+                    tokens,
+                    parts.end,
+                    goal,
+                    allowed(mode, allow_in),
+                    inner,
+                    sink,
+                )?;
                 parts = join(parts, child);
                 rest = then;
             }
@@ -149,15 +164,16 @@ fn record(
 }
 
 /// A tree for the goal, at `at`, that nests at most `room` deep but for what stands left of an operator.
-fn tree(
+fn tree<S: Sink>(
     tokens: &[Token],
     at: usize,
     goal: Goal,
     allow_in: bool,
     room: usize,
+    sink: &mut S,
 ) -> Result<Found, Unread>
     requires { ⌜ at ≤ length (now tokens) ⌝ }
-    ensures { λ r. ⌜ Cases r (λ f. Parsed (now (tokens .entry)) at «allow_in» (goalOf goal) f) (λ e. NotParsed (now (tokens .entry)) at «allow_in» (goalOf goal) room e) ⌝ }
+    ensures { λ r. ⌜ Cases r (λ f. Parsed (now (tokens .entry)) at «allow_in» (goalOf goal) (since (now (sink .entry))) (since (now (sink .exit))) f) (λ e. NotParsed (now (tokens .entry)) at «allow_in» (goalOf goal) room e) ⌝ }
 {
     if room == 0 {
         return Err(Unread::TooDeep);
@@ -168,10 +184,11 @@ fn tree(
         start_at(tokens, at),
         allow_in,
         room - 1,
+        sink,
     )?;
     while goes_on(tokens, found, goal, allow_in) {
         let rest = behind(turn_at(tokens, found.end), is_chain(found));
-        found = record(tokens, rest, start_with(found), allow_in, room - 1)?;
+        found = record(tokens, rest, start_with(found), allow_in, room - 1, sink)?;
     }
     Ok(found)
 }
@@ -193,12 +210,19 @@ fn refused(len: usize, why: Unread) -> Unread
 }
 
 /// The script that the tokens are, as far as their order decides: whether each child may stand where it stands is not
-/// looked at.
-fn script(tokens: &[Token]) -> Result<Found, Unread>
-    ensures { λ r. ⌜ Cases r (λ f. Scripted (now (tokens .entry)) f) (λ e. NotScript (now (tokens .entry)) e) ⌝ }
+/// looked at. Its nodes go into the sink.
+fn script<S: Sink>(tokens: &[Token], sink: &mut S) -> Result<Found, Unread>
+    ensures { λ r. ⌜ Cases r (λ f. Scripted (now (tokens .entry)) (since (now (sink .entry))) (since (now (sink .exit))) f) (λ e. NotScript (now (tokens .entry)) e) ⌝ }
 {
     let start = start_at(tokens, 0);
-    let found = match record(tokens, Rest::Statements(Body::Script), start, true, 511) {
+    let found = match record(
+        tokens,
+        Rest::Statements(Body::Script),
+        start,
+        true,
+        511,
+        sink,
+    ) {
         Ok(found) => found,
         Err(why) => return Err(refused(tokens.len(), why)),
     };
