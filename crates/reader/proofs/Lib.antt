@@ -2,7 +2,6 @@
 pub mod Fuel
 pub mod Eats
 pub mod Taking
-pub mod Sinks
 pub mod Records
 pub mod Trees
 pub mod Exits

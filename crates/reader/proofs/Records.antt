@@ -1,6 +1,6 @@
 -- The loop over the steps of a record.
 use mathlib.Core.Path.{_≡_, refl, sym, _∙_, ap, subst}
-use mathlib.Core.List.{List, [], _∷_, _++_, append-assoc}
+use mathlib.Core.List.{List, [], _∷_}
 use mathlib.Core.Bool.{Bool, true, false, cond}
 use mathlib.Core.Option.{Option, none, some, Option·none-ne-some}
 use Prim.Native.Nat.{ℕ, zero, suc, _+_, _≤_, _<_, max}
@@ -16,9 +16,8 @@ use Rattle.grammar.specs.Layout.{attr, attrs, firstStanding}
 use Rattle.grammar.specs.Parser.{Goal, Mode, mode, Do, fail, fin, eat, sub, settle, starts, Ran, ran, bind, exec, parse, perform}
 use Rattle.reader.specs.Table.{view}
 use Rattle.reader.specs.Reads.{standingOf, Started, Alone, Joined, Completed, Behind, own, Reads, Runs, noKids, Shape, Holds, Shaped, Bad, Parsed, NotParsed, Made, NotMade, graft, Carried}
-use Rattle.reader.specs.Post.{kids, nodeAt, nodeIn, post, posts, Sunk}
-use Rattle.reader.specs.declared.sink.Node.{Node}
-use Rattle.reader.proofs.Sinks.{sunk-then, sunk-none, append-nil, posts-last}
+use Rattle.reader.specs.Rows.{single, Nested, Pushed}
+use Rattle.reader.specs.declared.sink.Row.{Row}
 use Rattle.reader.specs.declared.found.Found.{Found}
 use Rattle.reader.specs.declared.found.Parts.{Parts}
 use Rattle.reader.specs.declared.tree.Unread.{Unread}
@@ -39,10 +38,6 @@ sizes-last : (us : Forest) (t : Tree) → sizes (us ⊕ (t ▸ nil)) ≡ sizes u
 unfolding sizes
 sizes-last nil t = omega arith
 sizes-last (u ▸ us) t = omega (arith, sizes-last us t)
-
-kids-last : (us : Forest) (t : Tree) → kids (us ⊕ (t ▸ nil)) ≡ kids us + 1
-kids-last nil t = omega arith
-kids-last (u ▸ us) t = omega (arith, kids-last us t)
 
 depths-last : (us : Forest) (t : Tree) → depths (us ⊕ (t ▸ nil)) ≡ max (depths us) (depth t)
 unfolding depths
@@ -118,79 +113,72 @@ sub-inv m b s h ks d q s2 y e g =
     the-same a c i = cc
 
 -- What the parts hold.
-holds-same : (us : Forest) (p q : Parts) → q .childless ≡ p .childless → q .«over_call» ≡ p .«over_call» → q .«over_target» ≡ p .«over_target» → q .size ≡ p .size → q .depth ≡ p .depth → q .count ≡ p .count → Holds us p → Holds us q
-holds-same us p q a b c d e g h = record { counts = h .counts ∙ sym g; childless = h .childless ∙ sym a; call = h .call ∙ sym b; target = h .target ∙ sym c; records = h .records ∙ sym d; nests = h .nests ∙ sym e }
+holds-same : (us : Forest) (p q : Parts) → q .childless ≡ p .childless → q .«over_call» ≡ p .«over_call» → q .«over_target» ≡ p .«over_target» → q .size ≡ p .size → q .depth ≡ p .depth → Holds us p → Holds us q
+holds-same us p q a b c d e h = record { childless = h .childless ∙ sym a; call = h .call ∙ sym b; target = h .target ∙ sym c; records = h .records ∙ sym d; nests = h .nests ∙ sym e }
 
-holds-join : (us : Forest) (t : Tree) (p q : Parts) (f : Found) → Holds us p → Shape t f → Joined p f q → Holds (us ⊕ (t ▸ nil)) q
+holds-join : (us : Forest) (t : Tree) (p q : Parts) (f : Found) (r : Row) → Holds us p → Shape t f → Joined p f r q → Holds (us ⊕ (t ▸ nil)) q
 unfolding attr
-holds-join nil t p q f h s j =
+holds-join nil t p q f r h s j =
     record {
       childless = sym (j .childless);
       call = sym (j .call ∙ rw (sym (h .childless)) (ap isC (sym (s .stands))));
       target = sym (j .target ∙ rw (sym (h .childless)) (ap isTarget (sym (s .stands))));
       records = sizes-last nil t ∙ omega (arith, h .records, s .records, j .records);
       nests = depths-last nil t ∙ rw (h .nests, s .nests, j .nests) (ap (λ (k : ℕ). max (p .depth) k) (omega arith));
-      counts = omega (arith, kids-last nil t, h .counts, j .counts);
     }
-holds-join (u ▸ us) t p q f h s j =
+holds-join (u ▸ us) t p q f r h s j =
     record {
       childless = sym (j .childless);
       call = sym (j .call ∙ rw (sym (h .childless)) (sym (h .call)));
       target = sym (j .target ∙ rw (sym (h .childless)) (sym (h .target)));
       records = sizes-last (u ▸ us) t ∙ omega (arith, h .records, s .records, j .records);
       nests = depths-last (u ▸ us) t ∙ rw (h .nests, s .nests, j .nests) (ap (λ (k : ℕ). max (p .depth) k) (omega arith));
-      counts = omega (arith, kids-last (u ▸ us) t, h .counts, j .counts);
     }
-
-node-same : (p : Parts) (g : Form) (f : Found) → Completed p g f → nodeIn p g ≡ nodeAt f (p .count)
-node-same p g f x = rw (x .form, x .lo, x .hi) refl
 
 bad-le : (e : Unread) (i d b : ℕ) → Bad e i d → d ≤ b → Bad e i b
 bad-le NoDerivation i d b h le = h
 bad-le TooDeep i d b h le = omega arith
 
-module _ {K : Type 0} (ts : List Token) (b : Bool) where
-  pub carried-none : (E : K → List Node → Type 0) (s : Do) (p : Parts) → p .end ≤ length ts → p .depth ≤ p .size → p .count ≤ p .size → Carried ts b s p E E s p
-  carried-none E s p w n ct = record { sunk = sunk-none (λ k ys h. h); counted = ct; few = omega arith; fewer = omega arith; nests = n; within = w; lo = refl; run = (nil, λ ws h. subst (λ (us : Forest). Holds us p) (sym (join-nil ws)) h, (0, λ m le. (m, omega arith, graft-nil (perform m b s (p .hi) (view ts (p .end)))))) }
+module _ {K : Type 0} (R : K → K → Row → Forest → Type 0) (ts : List Token) (b : Bool) where
+  pub carried-none : (e0 : K) (s : Do) (p : Parts) → p .end ≤ length ts → p .depth ≤ p .size → Carried ts b s p R e0 e0 s p
+  carried-none e0 s p w n = record { rows = λ z ws h. subst (λ (us : Forest). R e0 z (p .row) us) (sym (join-nil ws)) h; few = omega arith; fewer = omega arith; nests = n; within = w; lo = refl; run = (nil, λ ws h. subst (λ (us : Forest). Holds us p) (sym (join-nil ws)) h, (0, λ m le. (m, omega arith, graft-nil (perform m b s (p .hi) (view ts (p .end)))))) }
 
-  module _ (s0 : Do) (p0 : Parts) (E M : K → List Node → Type 0) (s : Do) (p : Parts) (c : Carried ts b s0 p0 E M s p) where
-    pub carried-eat : (k : Code) (s2 : Do) (q : Parts) → settle s (view ts (p .end)) ≡ eat k s2 → Behind ts p k q → Carried ts b s0 p0 E M s2 q
+  module _ (s0 : Do) (p0 : Parts) (e0 m0 : K) (s : Do) (p : Parts) (c : Carried ts b s0 p0 R e0 m0 s p) where
+    pub carried-eat : (k : Code) (s2 : Do) (q : Parts) → settle s (view ts (p .end)) ≡ eat k s2 → Behind ts p k q → Carried ts b s0 p0 R e0 m0 s2 q
     carried-eat k s2 q e x =
-        let (us, h, (m0, g)) = c .run in
+        let (us, h, (k0, g)) = c .run in
         let (tk, v, sm, hi) = x .next in
         record {
           few = omega (arith, c .few, x .records, x .end, own-one s);
           fewer = omega (arith, c .fewer, x .records, x .end);
           nests = omega (arith, c .nests, x .records, x .nests);
-          counted = omega (arith, c .counted, x .records, x .counts);
-          sunk = c .sunk;
+          rows = λ z ws hw. subst (λ (r : Row). R m0 z r (ws ⊕ us)) (sym (x .row)) (c .rows z ws hw);
           within = omega (arith, x .within, x .end);
           lo = x .lo ∙ c .lo;
           run = (
             us,
-            λ ws hw. holds-same (ws ⊕ us) p q (x .childless) (x .call) (x .target) (x .records) (x .nests) (x .counts) (h ws hw),
-            (m0, λ m le. let (n, l, w) = g (suc m) (omega arith) in (n, omega arith, w ∙ ap (graft us) (step-eat m b s (p .hi) (view ts (p .end)) k s2 tk (view ts (p .end + 1)) e v sm ∙ rw (hi, x .end) refl))),
+            λ ws hw. holds-same (ws ⊕ us) p q (x .childless) (x .call) (x .target) (x .records) (x .nests) (h ws hw),
+            (k0, λ m le. let (n, l, w) = g (suc m) (omega arith) in (n, omega arith, w ∙ ap (graft us) (step-eat m b s (p .hi) (view ts (p .end)) k s2 tk (view ts (p .end + 1)) e v sm ∙ rw (hi, x .end) refl))),
           );
         }
 
-    pub carried-read : (X : K → List Node → Type 0) (d : Mode) (g : Goal) (s2 : Do) (f : Found) (q : Parts) → settle s (view ts (p .end)) ≡ sub d g s2 → Parsed ts (p .end) (mode d b) g M X f → Joined p f q → Carried ts b s0 p0 E X s2 q
-    carried-read X d g s2 f q e x j =
-        let (us, h, (m0, w)) = c .run in
+    pub carried-read : (x1 x2 : K) (d : Mode) (g : Goal) (s2 : Do) (f : Found) (r2 : Row) (q : Parts) → settle s (view ts (p .end)) ≡ sub d g s2 → Parsed ts (p .end) (mode d b) g R m0 x1 f → Pushed R x1 x2 (p .row) (f .slot) r2 → Joined p f r2 q → Carried ts b s0 p0 R e0 x2 s2 q
+    carried-read x1 x2 d g s2 f r2 q e x pu j =
+        let (us, h, (k0, w)) = c .run in
         let (t, sh, (m1, r), sk) = x .tree in
         let big : own s ≤ own s2 = subst (λ (z : Do). own s ≤ own z) e (own-settle s (view ts (p .end))) in
         record {
           few = omega (arith, c .few, x .few, j .records, j .end, big);
           fewer = omega (arith, c .fewer, x .few, j .records, j .end);
           nests = omega (arith, c .nests, x .nests, j .records, j .nests);
-          counted = omega (arith, c .counted, j .records, j .counts);
-          sunk = subst (λ (zs : List Node). Sunk E X zs) (sym (posts-last us t)) (sunk-then (c .sunk) sk);
+          rows = λ z ws hw. subst (λ (r : Row). R x2 z r (ws ⊕ (us ⊕ (t ▸ nil)))) (sym (j .row)) (subst (λ (vs : Forest). R x2 z r2 vs) (join-assoc ws us (t ▸ nil)) (pu .at z m0 (ws ⊕ us) t (c .rows z ws hw) sk));
           within = omega (arith, x .within, j .end);
           lo = j .lo ∙ c .lo;
           run = (
             us ⊕ (t ▸ nil),
-            λ ws hw. subst (λ (vs : Forest). Holds vs q) (join-assoc ws us (t ▸ nil)) (holds-join (ws ⊕ us) t p q f (h ws hw) sh j),
+            λ ws hw. subst (λ (vs : Forest). Holds vs q) (join-assoc ws us (t ▸ nil)) (holds-join (ws ⊕ us) t p q f r2 (h ws hw) sh j),
             (
-              m0 + m1,
+              k0 + m1,
               λ m le.
                   let (n, l, y) = w (suc m) (omega arith) in
                   let hi : headOf t .hi ≡ q .hi = ap (λ (z : Head). z .hi) (sh .heads) ∙ sym (j .hi) in (
@@ -202,17 +190,17 @@ module _ {K : Type 0} (ts : List Token) (b : Bool) where
           );
         }
 
-    pub made : (X : K → List Node → Type 0) (g : Form) (f : Found) → settle s (view ts (p .end)) ≡ fin g → Completed p g f → Sunk M X (nodeIn p g ∷ []) → Made ts b s0 p0 E X f
-    made X g f e x sk =
-        let (us, h, (m0, w)) = c .run in
-        let (n, l, y) = w (suc m0) (omega arith) in
+    pub made : (x1 : K) (g : Form) (n1 : ℕ) (f : Found) → settle s (view ts (p .end)) ≡ fin g → Completed p g n1 f → Nested R m0 x1 g (p .row) (p .lo) (p .hi) n1 → Made ts b s0 p0 R e0 x1 f
+    made x1 g n1 f e x ne =
+        let (us, h, (k0, w)) = c .run in
+        let (n, l, y) = w (suc k0) (omega arith) in
         let big : own s ≤ 0 = subst (λ (z : Do). own s ≤ own z) e (own-settle s (view ts (p .end))) in
-        let is : perform n b s0 (p0 .hi) (view ts (p0 .end)) ≡ some (ran (f .form) us (f .hi) (view ts (f .end))) = y ∙ ap (graft us) (step-fin m0 b s (p .hi) (view ts (p .end)) g e) ∙ rw (x .form, x .hi, x .end, join-nil us) refl in
+        let is : perform n b s0 (p0 .hi) (view ts (p0 .end)) ≡ some (ran (f .form) us (f .hi) (view ts (f .end))) = y ∙ ap (graft us) (step-fin k0 b s (p .hi) (view ts (p .end)) g e) ∙ rw (x .form, x .hi, x .end, join-nil us) refl in
         record {
           few = omega (arith, c .few, x .records, x .end, big);
           nests = omega (arith, c .nests, x .records, x .nests);
           within = omega (arith, c .within, x .end);
-          sunk = (p .count, λ ws hw. h ws hw .counts, sunk-then (c .sunk) (subst (λ (z : Node). Sunk M X (z ∷ [])) (node-same p g f x) sk));
+          rows = λ z ws hw. rw (x .slot, x .form, x .lo, x .hi) (ne .at z (ws ⊕ us) (c .rows z ws hw));
           lo = x .lo ∙ c .lo;
           run = (
             us,
@@ -224,10 +212,10 @@ module _ {K : Type 0} (ts : List Token) (b : Bool) where
     -- what the whole would give, the rest gives
     back : (n : ℕ) (y : Ran) → perform n b s0 (p0 .hi) (view ts (p0 .end)) ≡ some y → (m : ℕ) × (z : Ran) × (perform (suc m) b s (p .hi) (view ts (p .end)) ≡ some z) × (depths (z .kids) ≤ depths (y .kids))
     back n y e =
-        let (us, h, (m0, w)) = c .run in
-        let (k, l, g) = w (suc (m0 + n)) (omega arith) in
-        let (z, i, j) = graft-inv us (perform (suc (m0 + n)) b s (p .hi) (view ts (p .end))) y (sym g ∙ raise-R n k b s0 (p0 .hi) (view ts (p0 .end)) y (omega arith) e) in
-        (m0 + n, z, i, subst (λ (vs : Forest). depths (z .kids) ≤ depths vs) j (depths-right us (z .kids)))
+        let (us, h, (k0, w)) = c .run in
+        let (k, l, g) = w (suc (k0 + n)) (omega arith) in
+        let (z, i, j) = graft-inv us (perform (suc (k0 + n)) b s (p .hi) (view ts (p .end))) y (sym g ∙ raise-R n k b s0 (p0 .hi) (view ts (p0 .end)) y (omega arith) e) in
+        (k0 + n, z, i, subst (λ (vs : Forest). depths (z .kids) ≤ depths vs) j (depths-right us (z .kids)))
 
     pub not-fail : (room : ℕ) → settle s (view ts (p .end)) ≡ fail → NotMade ts b s0 p0 room NoDerivation
     not-fail room e n y g = let (m, z, i, le) = back n y g in Option·none-ne-some z (sym (step-fail m b s (p .hi) (view ts (p .end)) e) ∙ i)

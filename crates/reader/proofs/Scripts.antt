@@ -29,9 +29,9 @@ use Rattle.reader.specs.declared.tree.Unread.{Unread}
 use Rattle.reader.specs.declared.tree.Unread.the-variants.{NoDerivation, TooDeep}
 use Rattle.reader.proofs.Fuel.{raise-P, bind-inv, some-one}
 use Rattle.reader.proofs.Width.{width, depths-sizes}
-use Rattle.reader.proofs.Trees.{shape-node, holds-nil, post-node}
-use Rattle.reader.specs.Post.{post, Sunk}
-use Rattle.reader.specs.declared.sink.Node.{Node}
+use Rattle.reader.proofs.Trees.{shape-node, holds-nil, row-at}
+use Rattle.reader.specs.Rows.{single}
+use Rattle.reader.specs.declared.sink.Row.{Row}
 
 -- The reading of a script is what the grammar's reader finds.
 cond-some : {A : Type 0} (b : Bool) (x y : A) → cond b (some x) none ≡ some y → T b × (x ≡ y)
@@ -73,7 +73,7 @@ shallow ts u d =
     let w : depth (begun ts y) ≤ 1 + length ts = omega (arith, depth-begun ts y, depths-sizes (y .kids), width m true (stms (fin form.Script)) 0 ts y tt h1) in
     subst (λ (t : Tree). depth t ≤ 1 + length ts) h2 w
 
-module _ (ts : List Token) (p : Parts) (st : Started ts 0 p) where
+module _ (ts : List Token) (r0 : Row) (p : Parts) (st : Started ts 0 r0 p) where
   run-at : (m : ℕ) (y : Ran) → perform m true (stms (fin form.Script)) 0 ts ≡ some y → perform m true (stms (fin form.Script)) (p .hi) (view ts (p .end)) ≡ some y
   unfolding view
   run-at m y h = rw (st .hi, st .end) h
@@ -101,13 +101,13 @@ module _ (ts : List Token) (p : Parts) (st : Started ts 0 p) where
   refuse NoDerivation nm = no-script nm
   refuse TooDeep nm = refuse-by nm (ltb (length ts) 500) refl
 
-  module _ {K : Type 0} (E X : K → List Node → Type 0) (f : Found) (m : Made ts true (stms (fin form.Script)) p E X f) where
+  module _ {K : Type 0} (R : K → K → Row → Forest → Type 0) (e0 x0 : K) (f : Found) (m : Made ts true (stms (fin form.Script)) p R e0 x0 f) where
     abbrev t0 : Tree
     t0 = node (head (f .form) (loOf ts) (f .hi)) (m .run .0)
 
     shaped : Shape t0 f
     unfolding view
-    shaped = shape-node (m .run .0) f (loOf ts) (sym (m .lo ∙ rw (st .lo) refl)) (m .run .2 nil (holds-nil ts 0 p st))
+    shaped = shape-node (m .run .0) f (loOf ts) (sym (m .lo ∙ rw (st .lo) refl)) (m .run .2 nil (holds-nil ts 0 r0 p st))
 
     scr-reads : Reads true scr ts t0 (view ts (f .end))
     unfolding parse loop view
@@ -126,9 +126,9 @@ module _ (ts : List Token) (p : Parts) (st : Started ts 0 p) where
         let e = some-one (u, []) (t0, view ts (f .end)) (sym c ∙ a) in
         (ap (λ (x : Tree × List Token). x .0) e, ap (λ (x : Tree × List Token). x .1) e)
 
-    sunk : Sunk E X (post t0)
+    kept : R e0 e0 r0 nil → R x0 e0 (single (f .slot)) (t0 ▸ nil)
     unfolding view
-    sunk = subst (λ (zs : List Node). Sunk E X zs) (sym (post-node (m .run .0) f (loOf ts) (m .sunk .0) (sym (m .lo ∙ rw (st .lo) refl)) (m .sunk .1 nil (holds-nil ts 0 p st)))) (m .sunk .2)
+    kept rn = row-at R x0 e0 f (loOf ts) (m .run .0) (sym (m .lo ∙ rw (st .lo) refl)) (m .rows e0 nil (subst (λ (r : Row). R e0 e0 r nil) (sym (st .row)) rn))
 
     pub left-over : f .end < length ts → NotScript ts NoDerivation
     unfolding view
@@ -137,6 +137,6 @@ module _ (ts : List Token) (p : Parts) (st : Started ts 0 p) where
     pub too-deep : 511 < f .under → NotScript ts TooDeep
     too-deep lt = (omega (arith, m .few, m .nests, m .within, st .records, st .end), λ u d. subst (λ (t : Tree). 512 < depth t) (sym (only u d .0)) (omega (arith, shaped .nests)))
 
-    pub scripted : length ts ≤ f .end → f .under ≤ 511 → Scripted ts E X f
+    pub scripted : R e0 e0 r0 nil → length ts ≤ f .end → f .under ≤ 511 → Scripted ts R e0 x0 f
     unfolding view
-    scripted le un = record { tree = (t0, shaped, omega (arith, shaped .nests), subst (λ (r : List Token). Reads true scr ts t0 r) (drop-of-length-le ts le) scr-reads, λ u d. only u d .0, sunk) }
+    scripted rn le un = record { tree = (t0, shaped, omega (arith, shaped .nests), subst (λ (r : List Token). Reads true scr ts t0 r) (drop-of-length-le ts le) scr-reads, λ u d. only u d .0, kept rn) }

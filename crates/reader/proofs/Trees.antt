@@ -1,6 +1,6 @@
 -- The loop over what follows an expression.
 use mathlib.Core.Path.{_≡_, refl, sym, _∙_, ap, subst}
-use mathlib.Core.List.{List, [], _∷_, _++_, append-assoc}
+use mathlib.Core.List.{List, [], _∷_}
 use mathlib.Core.Bool.{Bool, true, false, cond}
 use mathlib.Core.Option.{Option, none, some, Option·none-ne-some}
 use Prim.Native.Nat.{ℕ, zero, suc, _+_, _-_, _≤_, _<_, max}
@@ -15,9 +15,8 @@ use Rattle.grammar.specs.Derives.{loOf}
 use Rattle.grammar.specs.Parser.{Goal, Do, prefix, After, frameDo, frame, next, goesOn, Ran, ran, bind, begun, grownOn, parse, loop, perform}
 use Rattle.reader.specs.Table.{view, Turns}
 use Rattle.reader.specs.Reads.{standingOf, Started, Alone, own, eats, Holds, Shape, Shaped, Bad, Parsed, NotParsed, Made, NotMade, Reached, Climbed, Onward}
-use Rattle.reader.specs.Post.{kids, nodeAt, post, posts, Sunk}
-use Rattle.reader.specs.declared.sink.Node.{Node}
-use Rattle.reader.proofs.Sinks.{sunk-then, append-nil}
+use Rattle.reader.specs.Rows.{single}
+use Rattle.reader.specs.declared.sink.Row.{Row}
 use Rattle.reader.specs.declared.found.Found.{Found}
 use Rattle.reader.specs.declared.found.Parts.{Parts}
 use Rattle.reader.specs.declared.tree.Unread.{Unread}
@@ -47,21 +46,16 @@ pub shape-node : (us : Forest) (f : Found) (l : ℕ) → l ≡ f .lo → Shaped 
 unfolding attr size depth
 shape-node us f l e s = record { heads = rw e refl; sort = refl; stands = rw (s .call, s .target) refl; records = ap (λ (k : ℕ). 1 + k) (s .records); nests = ap (λ (k : ℕ). 1 + k) (s .nests) }
 
-pub holds-nil : (ts : List Token) (i : ℕ) (p : Parts) → Started ts i p → Holds nil p
+pub holds-nil : (ts : List Token) (i : ℕ) (r : Row) (p : Parts) → Started ts i r p → Holds nil p
 unfolding attrs sizes depths
-holds-nil ts i p s = record { counts = sym (s .counts); childless = sym (s .childless); call = sym (s .call); target = sym (s .target); records = sym (s .records); nests = sym (s .nests) }
+holds-nil ts i r p s = record { childless = sym (s .childless); call = sym (s .call); target = sym (s .target); records = sym (s .records); nests = sym (s .nests) }
 
 holds-one : (t : Tree) (l : Found) (p : Parts) → Shape t l → Alone l p → Holds (t ▸ nil) p
 unfolding attrs sizes depths
-holds-one t l p s a = record { counts = sym (a .counts); childless = sym (a .childless); call = ap isC (s .stands) ∙ sym (a .call); target = ap isTarget (s .stands) ∙ sym (a .target); records = omega (arith, s .records, a .records); nests = omega (arith, s .nests, a .nests) }
+holds-one t l p s a = record { childless = sym (a .childless); call = ap isC (s .stands) ∙ sym (a .call); target = ap isTarget (s .stands) ∙ sym (a .target); records = omega (arith, s .records, a .records); nests = omega (arith, s .nests, a .nests) }
 
-pub post-node : (us : Forest) (f : Found) (l a : ℕ) → l ≡ f .lo → kids us ≡ a → post (node (head (f .form) l (f .hi)) us) ≡ posts us ++ nodeAt f a ∷ []
-unfolding post
-post-node us f l a e k = rw (e, k) refl
-
-post-on : (t : Tree) (us : Forest) (f : Found) (l a : ℕ) → l ≡ f .lo → kids (t ▸ us) ≡ a → post (node (head (f .form) l (f .hi)) (t ▸ us)) ≡ post t ++ (posts us ++ nodeAt f a ∷ [])
-unfolding post
-post-on t us f l a e k = rw (e, k) (append-assoc (post t) (posts us) (nodeAt f a ∷ []))
+pub row-at : {K : Type 0} (R : K → K → Row → Forest → Type 0) (x z : K) (f : Found) (l : ℕ) (us : Forest) → l ≡ f .lo → R x z (single (f .slot)) (node (head (f .form) (f .lo) (f .hi)) us ▸ nil) → R x z (single (f .slot)) (node (head (f .form) l (f .hi)) us ▸ nil)
+row-at R x z f l us e h = rw e h
 
 parse-one : (m : ℕ) (b : Bool) (q : Goal) (ks : List Token) (y : Ran) → perform m b (prefix q ks) 0 ks ≡ some y → parse (suc m) b q ks ≡ loop m b q (begun ks y) (y .left)
 unfolding parse
@@ -87,9 +81,6 @@ loop-off : (m : ℕ) (b : Bool) (q : Goal) (t : Tree) (ks : List Token) → goes
 unfolding loop
 loop-off m b q t ks g = rw g
 
-sunk-nil : {K : Type 0} (E : K → List Node → Type 0) → Sunk E E []
-sunk-nil E = record { at = λ k ys e. subst (E k) (sym (append-nil ys)) e }
-
 perform-same : (m : ℕ) (b : Bool) (s s2 : Do) (h h2 : ℕ) (ks js : List Token) (y : Ran) → s ≡ s2 → h ≡ h2 → ks ≡ js → perform m b s2 h2 js ≡ some y → perform m b s h ks ≡ some y
 perform-same m b s s2 h h2 ks js y a c d e = rw (a, c, d) e
 
@@ -97,20 +88,20 @@ module _ (ts : List Token) (i : ℕ) (b : Bool) (q : Goal) where
   pub no-room : NotParsed ts i b q 0 TooDeep
   no-room n t r h = some-deep t
 
-  module _ (s : Do) (p : Parts) (st : Started ts i p) (e : s ≡ prefix q (view ts i)) where
-    pub reached-first : {K : Type 0} (E X : K → List Node → Type 0) (f : Found) → T (eats (prefix q (view ts i))) → Made ts b s p E X f → Reached ts i b q E X f
-    reached-first E X f o m =
+  module _ (s : Do) (r0 : Row) (p : Parts) (st : Started ts i r0 p) (e : s ≡ prefix q (view ts i)) where
+    pub reached-first : {K : Type 0} (R : K → K → Row → Forest → Type 0) (e0 x0 : K) (f : Found) → T (eats (prefix q (view ts i))) → R e0 e0 r0 nil → Made ts b s p R e0 x0 f → Reached ts i b q R e0 x0 f
+    reached-first R e0 x0 f o rn m =
         let (us, (k, r), h) = m .run in
         let one : 1 ≤ own s = own-true s (subst (λ (x : Do). T (eats x)) (sym e) o) in
         let y : Ran = ran (f .form) us (f .hi) (view ts (f .end)) in
         record {
-          sunk = subst (λ (zs : List Node). Sunk E X zs) (sym (post-node us f (loOf (view ts i)) (m .sunk .0) (sym (m .lo ∙ st .lo)) (m .sunk .1 nil (holds-nil ts i p st)))) (m .sunk .2);
+          rows = row-at R x0 e0 f (loOf (view ts i)) us (sym (m .lo ∙ st .lo)) (m .rows e0 nil (subst (λ (r : Row). R e0 e0 r nil) (sym (st .row)) rn));
           few = omega (arith, m .few, st .records, st .end, one);
           nests = m .nests;
           within = m .within;
           tree = (
             begun (view ts i) y,
-            shape-node us f (loOf (view ts i)) (sym (m .lo ∙ st .lo)) (h nil (holds-nil ts i p st)),
+            shape-node us f (loOf (view ts i)) (sym (m .lo ∙ st .lo)) (h nil (holds-nil ts i r0 p st)),
             (k, λ n le. (suc n, omega arith, parse-one n b q (view ts i) y (rw (e, st .hi, st .end) at (r n le)))),
           );
         }
@@ -121,7 +112,7 @@ module _ (ts : List Token) (i : ℕ) (b : Bool) (q : Goal) where
         let h3 : perform m b s (p .hi) (view ts (p .end)) ≡ some y = rw (e, st .hi, st .end) h1 in
         bad-up x inner room (depths (y .kids)) (depth t) pos is (nm m y h3) (omega (arith, depth-node (head (y .form) (loOf (view ts i)) (y .upto)) (y .kids), grow m b q (begun (view ts i) y) (y .left) t r h2))
 
-  module _ {K : Type 0} (D M : K → List Node → Type 0) (l : Found) (re : Reached ts i b q D M l) (s : Do) (p : Parts) (al : Alone l p) (a : After) (ch : Bool) (tn : Turns a ch s) (ea : a ≡ next (view ts (l .end))) (ec : ch ≡ isO (standingOf l)) (on : Onward ts b q l true) where
+  module _ {K : Type 0} (R : K → K → Row → Forest → Type 0) (d0 m0 : K) (l : Found) (re : Reached ts i b q R d0 m0 l) (s : Do) (p : Parts) (al : Alone l p) (a : After) (ch : Bool) (tn : Turns a ch s) (ea : a ≡ next (view ts (l .end))) (ec : ch ≡ isO (standingOf l)) (on : Onward ts b q l true) where
     does : (t : Tree) → Shape t l → s ≡ frameDo (next (view ts (l .end))) (attr t .standing)
     does t sh = tn (attr t .standing) (ap isO (sh .stands) ∙ sym ec) ∙ ap (λ (z : After). frameDo z (attr t .standing)) ea
 
@@ -131,33 +122,32 @@ module _ (ts : List Token) (i : ℕ) (b : Bool) (q : Goal) where
     one : 1 ≤ own s
     one = let (t, sh, w) = re .tree in own-true s (subst (λ (x : Do). T (eats x)) (sym (does t sh)) (frame-eats (next (view ts (l .end))) (attr t .standing)))
 
-    more-below : (X : K → List Node → Type 0) (f : Found) → Made ts b s p M X f → l .below + 1 ≤ f .below
+    more-below : (x0 : K) (f : Found) → Made ts b s p R m0 x0 f → l .below + 1 ≤ f .below
     unfolding sizes
-    more-below X f m =
+    more-below x0 f m =
         let (t, sh, w) = re .tree in
         let (us, rr, h) = m .run in
         omega (arith, h (t ▸ nil) (holds-one t l p sh al) .records, sh .records)
 
-    pub longer : (X : K → List Node → Type 0) (f : Found) → Made ts b s p M X f → l .end < f .end
-    longer X f m = omega (arith, m .few, al .records, al .end, one, more-below X f m)
+    pub longer : (x0 : K) (f : Found) → Made ts b s p R m0 x0 f → l .end < f .end
+    longer x0 f m = omega (arith, m .few, al .records, al .end, one, more-below x0 f m)
 
-    pub climbed-next : (E X : K → List Node → Type 0) (f0 f : Found) → Climbed ts i b q E M f0 l → Made ts b s p M X f → Climbed ts i b q E X f0 f
-    climbed-next E X f0 f cl m =
+    pub climbed-next : (e0 x0 : K) (f0 f : Found) → Climbed ts i b q R e0 m0 f0 l → Made ts b s p R m0 x0 f → Climbed ts i b q R e0 x0 f0 f
+    climbed-next e0 x0 f0 f cl m =
         record {
           few = omega (arith, re .few, m .few, al .records, al .end, one);
           nests = m .nests;
           within = m .within;
           tree = λ t0 sh0.
-              let (t, sh, (k, w), (zs, pe, z)) = cl .tree t0 sh0 in
+              let (t, sh, (k, w), rs) = cl .tree t0 sh0 in
               let (us, (k2, r), h) = m .run in
               let y : Ran = ran (f .form) us (f .hi) (view ts (f .end)) in
               let hi : p .hi ≡ headOf t .hi = al .hi ∙ sym (ap (λ (z : Head). z .hi) (sh .heads)) in
-              let lo : headOf t .lo ≡ f .lo = ap (λ (z : Head). z .lo) (sh .heads) ∙ sym (m .lo ∙ al .lo) in
-              let ws : List Node = posts us ++ nodeAt f (m .sunk .0) ∷ [] in (
+              let lo : headOf t .lo ≡ f .lo = ap (λ (z : Head). z .lo) (sh .heads) ∙ sym (m .lo ∙ al .lo) in (
                 grownOn t y,
                 shape-node (t ▸ us) f (headOf t .lo) lo (h (t ▸ nil) (holds-one t l p sh al)),
                 (k + k2, λ n le. let (n2, le2, e) = w (suc n) (omega arith) in (n2, omega arith, e ∙ loop-on n b q t (view ts (l .end)) y (goes t sh) (rw (does t sh, hi, al .end) at (r n (omega arith))))),
-                (zs ++ ws, post-on t us f (headOf t .lo) (m .sunk .0) lo (m .sunk .1 (t ▸ nil) (holds-one t l p sh al)) ∙ ap (λ (ys : List Node). ys ++ ws) pe ∙ append-assoc (post t0) zs ws, sunk-then z (m .sunk .2)),
+                λ z hz. row-at R x0 z f (headOf t .lo) (t ▸ us) lo (m .rows z (t ▸ nil) (subst (λ (r : Row). R m0 z r (t ▸ nil)) (sym (al .row)) (rs z hz))),
               );
         }
 
@@ -170,26 +160,25 @@ module _ (ts : List Token) (i : ℕ) (b : Bool) (q : Goal) where
         let h3 : perform (k + n) b s (p .hi) (view ts (p .end)) ≡ some y = perform-same (k + n) b s (frameDo (next (view ts (l .end))) (attr t .standing)) (p .hi) (headOf t .hi) (view ts (p .end)) (view ts (l .end)) y (does t sh) hi (ap (view ts) (al .end)) h1 in
         bad-up x inner room (depths (y .kids)) (depth u) pos is (nm (k + n) y h3) (omega (arith, depth-kids (head (y .form) (headOf t .lo) (y .upto)) t (y .kids), grow (k + n) b q (grownOn t y) (y .left) u r h2))
 
-  pub stopped : {K : Type 0} (E X : K → List Node → Type 0) (f : Found) → Reached ts i b q E X f → Onward ts b q f false → Parsed ts i b q E X f
-  stopped E X f re off =
+  pub stopped : {K : Type 0} (R : K → K → Row → Forest → Type 0) (e0 x0 : K) (f : Found) → Reached ts i b q R e0 x0 f → Onward ts b q f false → Parsed ts i b q R e0 x0 f
+  stopped R e0 x0 f re off =
       let (t, sh, (k, w)) = re .tree in
       let (n, le, e) = w (suc k) (omega arith) in
-      record { few = re .few; nests = re .nests; within = re .within; tree = (t, sh, (n, λ m l. raise-P n m b q (view ts i) (t, view ts (f .end)) l (e ∙ loop-off k b q t (view ts (f .end)) (sym (off (attr t) (sh .sort) (sh .stands))))), re .sunk) }
+      record { few = re .few; nests = re .nests; within = re .within; tree = (t, sh, (n, λ m l. raise-P n m b q (view ts i) (t, view ts (f .end)) l (e ∙ loop-off k b q t (view ts (f .end)) (sym (off (attr t) (sh .sort) (sh .stands))))), re .rows) }
 
   -- the loop begins
-  pub climbed-none : {K : Type 0} (E : K → List Node → Type 0) (D : K → List Node → Type 0) (f : Found) → Reached ts i b q D E f → Climbed ts i b q E E f f
-  unfolding posts
-  climbed-none E D f re = record { few = re .few; nests = re .nests; within = re .within; tree = λ t sh. (t, sh, (0, λ m le. (m, omega arith, refl)), ([], sym (append-nil (post t)), sunk-nil E)) }
+  pub climbed-none : {K : Type 0} (R : K → K → Row → Forest → Type 0) (d0 e0 : K) (f : Found) → Reached ts i b q R d0 e0 f → Climbed ts i b q R e0 e0 f f
+  climbed-none R d0 e0 f re = record { few = re .few; nests = re .nests; within = re .within; tree = λ t sh. (t, sh, (0, λ m le. (m, omega arith, refl)), λ z h. h) }
 
   -- what was found before the loop, and in it
-  pub joined : {K : Type 0} (D E X : K → List Node → Type 0) (f0 f : Found) → Reached ts i b q D E f0 → Climbed ts i b q E X f0 f → Reached ts i b q D X f
-  joined D E X f0 f re cl =
+  pub joined : {K : Type 0} (R : K → K → Row → Forest → Type 0) (d0 e0 x0 : K) (f0 f : Found) → Reached ts i b q R d0 e0 f0 → Climbed ts i b q R e0 x0 f0 f → Reached ts i b q R d0 x0 f
+  joined R d0 e0 x0 f0 f re cl =
       let (t0, sh0, (k0, w0)) = re .tree in
-      let (t, sh, (k, w), (zs, pe, z)) = cl .tree t0 sh0 in
+      let (t, sh, (k, w), rs) = cl .tree t0 sh0 in
       record {
         few = cl .few;
         nests = cl .nests;
         within = cl .within;
         tree = (t, sh, (k0 + k, λ m le. let (n, l, e) = w m (omega arith) in let (n2, l2, e2) = w0 n (omega arith) in (n2, omega arith, e2 ∙ e)));
-        sunk = subst (λ (ys : List Node). Sunk D X ys) (sym pe) (sunk-then (re .sunk) z);
+        rows = rs d0 (re .rows);
       }

@@ -28,8 +28,8 @@ use Rattle.grammar.specs.Layout.{attr, attrs, sortOf, firstStanding}
 use Rattle.grammar.specs.Derives.{loOf}
 use Rattle.grammar.specs.Parser.{Goal, Do, fail, fin, eat, sub, peek, more, items, stms, operand, names, behind, Ran, ran, parse, loop, perform, goesOn, frame, next, starts}
 use Rattle.reader.specs.Table.{view, goalOf, doOf}
-use Rattle.reader.specs.Post.{kids, nodeAt, post, posts, Sunk}
-use Rattle.reader.specs.declared.sink.Node.{Node}
+use Rattle.reader.specs.Rows.{single}
+use Rattle.reader.specs.declared.sink.Row.{Row}
 use Rattle.reader.specs.declared.goal.Goal.{Goal as GoalR}
 use Rattle.reader.specs.declared.rest.Rest.{Rest}
 use Rattle.reader.specs.declared.found.Found.{Found}
@@ -43,7 +43,7 @@ standingOf f = standing (f .form) (f .«over_call») (f .«over_target»)
 abbrev pub Expr : Form → Bool
 Expr f = eqb 0 (sortRank (sortOf f))
 
-pub record Started (ts : List Token) (i : ℕ) (p : Parts) : Type 0 where
+pub record Started (ts : List Token) (i : ℕ) (r : Row) (p : Parts) : Type 0 where
   pub childless : p .childless ≡ true
   pub call : p .«over_call» ≡ false
   pub target : p .«over_target» ≡ false
@@ -52,7 +52,7 @@ pub record Started (ts : List Token) (i : ℕ) (p : Parts) : Type 0 where
   pub end : p .end ≡ i
   pub records : p .size ≡ 0
   pub nests : p .depth ≡ 0
-  pub counts : p .count ≡ 0
+  pub row : p .row ≡ r
 
 pub record Alone (f : Found) (p : Parts) : Type 0 where
   pub childless : p .childless ≡ false
@@ -63,9 +63,9 @@ pub record Alone (f : Found) (p : Parts) : Type 0 where
   pub end : p .end ≡ f .end
   pub records : p .size ≡ f .below + 1
   pub nests : p .depth ≡ f .under + 1
-  pub counts : p .count ≡ 1
+  pub row : p .row ≡ single (f .slot)
 
-pub record Joined (p : Parts) (f : Found) (q : Parts) : Type 0 where
+pub record Joined (p : Parts) (f : Found) (r : Row) (q : Parts) : Type 0 where
   pub childless : q .childless ≡ false
   pub call : q .«over_call» ≡ cond (p .childless) (isC (standingOf f)) (p .«over_call»)
   pub target : q .«over_target» ≡ cond (p .childless) (isTarget (standingOf f)) (p .«over_target»)
@@ -74,15 +74,16 @@ pub record Joined (p : Parts) (f : Found) (q : Parts) : Type 0 where
   pub end : q .end ≡ f .end
   pub records : q .size ≡ p .size + f .below + 1
   pub nests : q .depth ≡ max (p .depth) (f .under + 1)
-  pub counts : q .count ≡ p .count + 1
+  pub row : q .row ≡ r
 
-pub record Completed (p : Parts) (g : Form) (f : Found) : Type 0 where
+pub record Completed (p : Parts) (g : Form) (n : ℕ) (f : Found) : Type 0 where
   pub form : f .form ≡ g
   pub call : f .«over_call» ≡ p .«over_call»
   pub target : f .«over_target» ≡ p .«over_target»
   pub lo : f .lo ≡ p .lo
   pub hi : f .hi ≡ p .hi
   pub end : f .end ≡ p .end
+  pub slot : f .slot ≡ n
   pub records : f .below ≡ p .size
   pub nests : f .under ≡ p .depth
 
@@ -126,7 +127,6 @@ pub record Holds (us : Forest) (p : Parts) : Type 0 where
   pub target : isTarget (firstStanding (attrs us)) ≡ p .«over_target»
   pub records : sizes us ≡ p .size
   pub nests : depths us ≡ p .depth
-  pub counts : kids us ≡ p .count
 
 pub record Shaped (us : Forest) (f : Found) : Type 0 where
   pub call : isC (firstStanding (attrs us)) ≡ f .«over_call»
@@ -138,22 +138,22 @@ abbrev pub Bad : Unread → ℕ → ℕ → Type 0
 Bad NoDerivation room d = ⊥
 Bad TooDeep room d = room < d
 
-pub record Parsed {K : Type 0} (ts : List Token) (i : ℕ) (b : Bool) (q : Goal) (E X : K → List Node → Type 0) (f : Found) : Type 0 where
+pub record Parsed {K : Type 0} (ts : List Token) (i : ℕ) (b : Bool) (q : Goal) (R : K → K → Row → Forest → Type 0) (e x : K) (f : Found) : Type 0 where
   pub few : i + f .below < f .end
   pub nests : f .under ≤ f .below
   pub within : f .end ≤ length ts
-  pub tree : (t : Tree) × Shape t f × Reads b q (view ts i) t (view ts (f .end)) × Sunk E X (post t)
+  pub tree : (t : Tree) × Shape t f × Reads b q (view ts i) t (view ts (f .end)) × R x e (single (f .slot)) (t ▸ nil)
 
 abbrev pub NotParsed : List Token → ℕ → Bool → Goal → ℕ → Unread → Type 0
 NotParsed ts i b q room e = (n : ℕ) (t : Tree) (r : List Token) → parse n b q (view ts i) ≡ some (t, r) → Bad e room (depth t)
 
-pub record Made {K : Type 0} (ts : List Token) (b : Bool) (s : Do) (p : Parts) (E X : K → List Node → Type 0) (f : Found) : Type 0 where
+pub record Made {K : Type 0} (ts : List Token) (b : Bool) (s : Do) (p : Parts) (R : K → K → Row → Forest → Type 0) (e x : K) (f : Found) : Type 0 where
   pub few : f .below + p .end + own s ≤ p .size + f .end
   pub nests : f .under ≤ f .below
   pub within : f .end ≤ length ts
   pub lo : f .lo ≡ p .lo
   pub run : (us : Forest) × Runs b s (p .hi) (view ts (p .end)) (ran (f .form) us (f .hi) (view ts (f .end))) × ((ws : Forest) → Holds ws p → Shaped (ws ⊕ us) f)
-  pub sunk : (a : ℕ) × ((ws : Forest) → Holds ws p → kids (ws ⊕ run .0) ≡ a) × Sunk E X (posts (run .0) ++ nodeAt f a ∷ [])
+  pub rows : (z : K) (ws : Forest) → R e z (p .row) ws → R x z (single (f .slot)) (node (head (f .form) (f .lo) (f .hi)) (ws ⊕ run .0) ▸ nil)
 
 abbrev pub NotMade : List Token → Bool → Do → Parts → ℕ → Unread → Type 0
 NotMade ts b s p room e = (n : ℕ) (y : Ran) → perform n b s (p .hi) (view ts (p .end)) ≡ some y → Bad e room (depths (y .kids))
@@ -163,30 +163,29 @@ graft us none = none
 graft us (some y) = some (ran (y .form) (us ⊕ y .kids) (y .upto) (y .left))
 
 -- Since the loop began at p0 with s0 to do: the children us have come, and s is left to do at p.
-pub record Carried {K : Type 0} (ts : List Token) (b : Bool) (s0 : Do) (p0 : Parts) (E X : K → List Node → Type 0) (s : Do) (p : Parts) : Type 0 where
+pub record Carried {K : Type 0} (ts : List Token) (b : Bool) (s0 : Do) (p0 : Parts) (R : K → K → Row → Forest → Type 0) (e x : K) (s : Do) (p : Parts) : Type 0 where
   pub few : p .size + p0 .end + own s0 ≤ p0 .size + p .end + own s
   pub fewer : p .size + p0 .end ≤ p0 .size + p .end
   pub nests : p .depth ≤ p .size
-  pub counted : p .count ≤ p .size
   pub within : p .end ≤ length ts
   pub lo : p .lo ≡ p0 .lo
   pub run : (us : Forest) × ((ws : Forest) → Holds ws p0 → Holds (ws ⊕ us) p) × ((k : ℕ) × ((m : ℕ) → k ≤ m → (n : ℕ) × (m ≤ n) × (perform n b s0 (p0 .hi) (view ts (p0 .end)) ≡ graft us (perform m b s (p .hi) (view ts (p .end))))))
-  pub sunk : Sunk E X (posts (run .0))
+  pub rows : (z : K) (ws : Forest) → R e z (p0 .row) ws → R x z (p .row) (ws ⊕ run .0)
 
 -- What the grammar's reader finds at i is what it finds behind the tree so far.
-pub record Reached {K : Type 0} (ts : List Token) (i : ℕ) (b : Bool) (q : Goal) (E X : K → List Node → Type 0) (f : Found) : Type 0 where
+pub record Reached {K : Type 0} (ts : List Token) (i : ℕ) (b : Bool) (q : Goal) (R : K → K → Row → Forest → Type 0) (e x : K) (f : Found) : Type 0 where
   pub few : i + f .below < f .end
   pub nests : f .under ≤ f .below
   pub within : f .end ≤ length ts
   pub tree : (t : Tree) × Shape t f × ((k : ℕ) × ((m : ℕ) → k ≤ m → (n : ℕ) × (m ≤ n) × (parse n b q (view ts i) ≡ loop m b q t (view ts (f .end)))))
-  pub sunk : Sunk E X (post (tree .0))
+  pub rows : R x e (single (f .slot)) (tree .0 ▸ nil)
 
 -- Since the loop began, with f0: what the grammar's reader finds behind f0 is what it finds behind the tree so far.
-pub record Climbed {K : Type 0} (ts : List Token) (i : ℕ) (b : Bool) (q : Goal) (E X : K → List Node → Type 0) (f0 f : Found) : Type 0 where
+pub record Climbed {K : Type 0} (ts : List Token) (i : ℕ) (b : Bool) (q : Goal) (R : K → K → Row → Forest → Type 0) (e x : K) (f0 f : Found) : Type 0 where
   pub few : i + f .below < f .end
   pub nests : f .under ≤ f .below
   pub within : f .end ≤ length ts
-  pub tree : (t0 : Tree) → Shape t0 f0 → (t : Tree) × Shape t f × ((k : ℕ) × ((m : ℕ) → k ≤ m → (n : ℕ) × (m ≤ n) × (loop n b q t0 (view ts (f0 .end)) ≡ loop m b q t (view ts (f .end))))) × ((zs : List Node) × (post t ≡ post t0 ++ zs) × Sunk E X zs)
+  pub tree : (t0 : Tree) → Shape t0 f0 → (t : Tree) × Shape t f × ((k : ℕ) × ((m : ℕ) → k ≤ m → (n : ℕ) × (m ≤ n) × (loop n b q t0 (view ts (f0 .end)) ≡ loop m b q t (view ts (f .end))))) × ((z : K) → R e z (single (f0 .slot)) (t0 ▸ nil) → R x z (single (f .slot)) (t ▸ nil))
 
 -- Whether a tree of the shape f goes on behind f.
 abbrev pub Onward : List Token → Bool → Goal → Found → Bool → Type 0
@@ -203,7 +202,7 @@ pub record Behind (ts : List Token) (p : Parts) (c : Code) (q : Parts) : Type 0 
   pub lo : q .lo ≡ p .lo
   pub records : q .size ≡ p .size
   pub nests : q .depth ≡ p .depth
-  pub counts : q .count ≡ p .count
+  pub row : q .row ≡ p .row
 
 abbrev pub Eaten : List Token → Parts → Code → OptionR Parts → Type 0
 Eaten ts p c None = starts c (view ts (p .end)) ≡ false

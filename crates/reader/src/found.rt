@@ -8,16 +8,16 @@ ghost use Rattle.kinds.specs.Levels.{fits, isC, isO, isTarget};
 ghost use Rattle.grammar.specs.Derives.{loOf};
 ghost use Rattle.grammar.specs.Tree.{nil};
 ghost use Rattle.reader.specs.Table.{view};
-ghost use Rattle.reader.specs.Post.{nodeIn};
 ghost use Rattle.reader.specs.Reads.{standingOf, Started, Alone, Joined, Completed, Expr};
-use crate::sink::Node;
+use crate::sink::Row;
 use kinds::Form;
 use kinds::Slot;
 use kinds::level::fits;
 use token::Token;
 
 /// A tree that was read: its root's form and place, whether its first child is a call (class C) and whether it is a
-/// target, where the tokens behind it begin, the number of the records below its root, and how deep these nest.
+/// target, where the tokens behind it begin, the number of the records below its root, how deep these nest,
+/// and where the sink keeps it.
 #[derive(Clone, Copy)]
 pub struct Found {
     pub form: Form,
@@ -28,11 +28,12 @@ pub struct Found {
     pub end: usize,
     pub below: usize,
     pub under: usize,
+    pub slot: u16,
 }
 
 /// A record's children as far as they are read: whether there is none yet, what the first is (as above), where the
 /// record begins and where the last token read ends, where the tokens behind it begin, the number and nesting of
-/// the children's records, and the number of children.
+/// the children's records, and the row that they stand in.
 #[derive(Clone, Copy)]
 pub struct Parts {
     pub childless: bool,
@@ -43,7 +44,7 @@ pub struct Parts {
     pub end: usize,
     pub size: usize,
     pub depth: usize,
-    pub count: usize,
+    pub row: Row,
 }
 
 /// Whether the expression may stand bare in the slot.
@@ -98,10 +99,10 @@ pub fn is_expression(form: Form) -> bool
     )
 }
 
-/// A record that begins at `at`.
-pub fn start_at(tokens: &[Token], at: usize) -> Parts
+/// A record that begins at `at`, over a row of no trees.
+pub fn start_at(tokens: &[Token], at: usize, row: Row) -> Parts
     requires { ⌜ at ≤ length (now tokens) ⌝ }
-    ensures { λ r. ⌜ Started (now (tokens .entry)) at r ⌝ }
+    ensures { λ r. ⌜ Started (now (tokens .entry)) at row r ⌝ }
 {
     let lo = if at < tokens.len() { tokens[at].lo } else { 0 };
     Parts {
@@ -113,7 +114,7 @@ pub fn start_at(tokens: &[Token], at: usize) -> Parts
         end: at,
         size: 0,
         depth: 0,
-        count: 0,
+        row,
     }
 }
 
@@ -132,16 +133,18 @@ pub fn start_with(found: Found) -> Parts
         end: found.end,
         size: found.below + 1,
         depth: found.under + 1,
-        count: 1,
+        row: Row {
+            first: found.slot,
+            last: found.slot,
+        },
     }
 }
 
-/// The parts with one more child.
-pub fn join(parts: Parts, child: Found) -> Parts
+/// The parts with one more child, which makes the row of them `row`.
+pub fn join(parts: Parts, child: Found, row: Row) -> Parts
     requires few { ⌜ parts .size + child .below < child .end ⌝ }
     requires nests { ⌜ child .under ≤ child .below ⌝ }
-    requires counted { ⌜ parts .count ≤ parts .size ⌝ }
-    ensures { λ r. ⌜ Joined parts child r ⌝ }
+    ensures { λ r. ⌜ Joined parts child row r ⌝ }
 {
     let over_call = if parts.childless {
         is_call(child)
@@ -162,13 +165,13 @@ pub fn join(parts: Parts, child: Found) -> Parts
         end: child.end,
         size: parts.size + child.below + 1,
         depth: parts.depth.max(child.under + 1),
-        count: parts.count + 1,
+        row,
     }
 }
 
-/// The record of this form over all its parts.
-pub fn complete(parts: Parts, form: Form) -> Found
-    ensures { λ r. ⌜ Completed parts form r ⌝ }
+/// The record of this form over all its parts, kept at `slot`.
+pub fn complete(parts: Parts, form: Form, slot: u16) -> Found
+    ensures { λ r. ⌜ Completed parts form slot r ⌝ }
 {
     Found {
         form,
@@ -179,17 +182,6 @@ pub fn complete(parts: Parts, form: Form) -> Found
         end: parts.end,
         below: parts.size,
         under: parts.depth,
-    }
-}
-
-/// The node of the record of this form over all its parts.
-pub fn node(parts: Parts, form: Form) -> Node
-    ensures { λ r. ⌜ r ≡ nodeIn parts form ⌝ }
-{
-    Node {
-        form,
-        arity: parts.count,
-        lo: parts.lo,
-        hi: parts.hi,
+        slot,
     }
 }

@@ -1,27 +1,33 @@
-// Where the nodes of a tree go, one by one, children before their parent.
+// Where the trees go that are read: parents are put over rows of siblings, and trees behind rows.
 
-ghost use mathlib.Core.List.{List, [], _∷_};
-ghost use mathlib.Core.Path.{_≡_};
-ghost use Rattle.reader.specs.declared.sink.Node.{Node};
-ghost use Rattle.reader.specs.Post.{Sunk};
+ghost use Rattle.grammar.specs.Tree.{Forest, nil};
+ghost use Rattle.reader.specs.declared.sink.Row.{Row};
+ghost use Rattle.reader.specs.Rows.{Nested, Pushed};
 use kinds::Form;
 
-/// A node: its form, the number of its children, and its place in the text.
+/// A row of siblings: where its first and its last tree are kept, both 0 while there is none.
 #[derive(Clone, Copy)]
-pub struct Node {
-    pub form: Form,
-    pub arity: usize,
-    pub lo: u32,
-    pub hi: u32,
+pub struct Row {
+    pub first: u16,
+    pub last: u16,
 }
 
-/// Takes the nodes of a tree one by one, children before their parent.
+/// Takes the trees that are read, children before their parent.
 pub trait Sink {
-    // `since t s xs`: t is what s has become by the nodes xs
-    ghost since: { Self → Self → List Node → Type 0 };
+    // `rows t s r us`: since s, and as t is now, the trees us stand in the row r
+    ghost rows: { Self → Self → Row → Forest → Type 0 };
 
-    fn put(&mut self, node: Node)
-        ensures { λ _. ⌜ Sunk (since (now (self .entry))) (since (now (self .exit))) (node ∷ []) ⌝ };
+    /// A row of no trees.
+    fn none(&self) -> Row
+        ensures { λ r. ⌜ rows (now (self .entry)) (now (self .entry)) r nil ⌝ };
+
+    /// Puts a parent over a row, and says where it is kept.
+    fn nest(&mut self, form: Form, row: Row, lo: u32, hi: u32) -> u16
+        ensures { λ r. ⌜ Nested rows (now (self .entry)) (now (self .exit)) form row lo hi r ⌝ };
+
+    /// Puts the tree kept at `child` behind a row; that tree was put up after the row.
+    fn push(&mut self, row: Row, child: u16) -> Row
+        ensures { λ r. ⌜ Pushed rows (now (self .entry)) (now (self .exit)) row child r ⌝ };
 }
 
 /// Keeps nothing: for a reading that only decides and counts.
@@ -31,10 +37,20 @@ pub struct Nothing {
 }
 
 pub impl Sink for Nothing as NothingSink {
-    ghost since = { λ t s xs. Unit {0} };
+    ghost rows = { λ t s r us. Unit {0} };
 
-    fn put(&mut self, node: Node) {
+    fn none(&self) -> Row {
+        Row { first: 0, last: 0 }
+    }
+
+    fn nest(&mut self, form: Form, row: Row, lo: u32, hi: u32) -> u16 {
         self.unit = 0;
+        0
+    }
+
+    fn push(&mut self, row: Row, child: u16) -> Row {
+        self.unit = 0;
+        row
     }
 }
 

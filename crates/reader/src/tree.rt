@@ -20,7 +20,6 @@ use crate::found::is_chain;
 use crate::found::is_expression;
 use crate::found::is_target;
 use crate::found::join;
-use crate::found::node;
 use crate::found::start_at;
 use crate::found::start_with;
 use crate::found::suits;
@@ -111,7 +110,7 @@ fn eaten(tokens: &[Token], parts: Parts, code: Code) -> Option<Parts>
         end: parts.end + 1,
         size: parts.size,
         depth: parts.depth,
-        count: parts.count,
+        row: parts.row,
     })
 }
 
@@ -128,8 +127,7 @@ fn record<S: Sink>(
     requires within { ⌜ start .end ≤ length (now tokens) ⌝ }
     requires few { ⌜ start .size ≤ start .end ⌝ }
     requires nests { ⌜ start .depth ≤ start .size ⌝ }
-    requires counted { ⌜ start .count ≤ start .size ⌝ }
-    ensures { λ r. ⌜ Cases r (λ f. Made (now (tokens .entry)) «allow_in» (doOf begun) start (since (now (sink .entry))) (since (now (sink .exit))) f) (λ e. NotMade (now (tokens .entry)) «allow_in» (doOf begun) start inner e) ⌝ }
+    ensures { λ r. ⌜ Cases r (λ f. Made (now (tokens .entry)) «allow_in» (doOf begun) start rows (now (sink .entry)) (now (sink .exit)) f) (λ e. NotMade (now (tokens .entry)) «allow_in» (doOf begun) start inner e) ⌝ }
 {
     let mut rest = begun;
     let mut parts = start;
@@ -137,8 +135,8 @@ fn record<S: Sink>(
         match next_step(tokens, parts.end, rest) {
             Step::Fail => return Err(Unread::NoDerivation),
             Step::Finish(form) => {
-                sink.put(node(parts, form));
-                return Ok(complete(parts, form));
+                let slot = sink.nest(form, parts.row, parts.lo, parts.hi);
+                return Ok(complete(parts, form, slot));
             }
             Step::Eat(code, then) => {
                 let Some(next) = eaten(tokens, parts, code) else {
@@ -156,7 +154,8 @@ fn record<S: Sink>(
                     inner,
                     sink,
                 )?;
-                parts = join(parts, child);
+                let row = sink.push(parts.row, child.slot);
+                parts = join(parts, child, row);
                 rest = then;
             }
         }
@@ -173,15 +172,16 @@ fn tree<S: Sink>(
     sink: &mut S,
 ) -> Result<Found, Unread>
     requires { ⌜ at ≤ length (now tokens) ⌝ }
-    ensures { λ r. ⌜ Cases r (λ f. Parsed (now (tokens .entry)) at «allow_in» (goalOf goal) (since (now (sink .entry))) (since (now (sink .exit))) f) (λ e. NotParsed (now (tokens .entry)) at «allow_in» (goalOf goal) room e) ⌝ }
+    ensures { λ r. ⌜ Cases r (λ f. Parsed (now (tokens .entry)) at «allow_in» (goalOf goal) rows (now (sink .entry)) (now (sink .exit)) f) (λ e. NotParsed (now (tokens .entry)) at «allow_in» (goalOf goal) room e) ⌝ }
 {
     if room == 0 {
         return Err(Unread::TooDeep);
     }
+    let none = sink.none();
     let mut found = record(
         tokens,
         begin(tokens, at, goal),
-        start_at(tokens, at),
+        start_at(tokens, at, none),
         allow_in,
         room - 1,
         sink,
@@ -210,11 +210,11 @@ fn refused(len: usize, why: Unread) -> Unread
 }
 
 /// The script that the tokens are, as far as their order decides: whether each child may stand where it stands is not
-/// looked at. Its nodes go into the sink.
+/// looked at. It goes into the sink.
 fn script<S: Sink>(tokens: &[Token], sink: &mut S) -> Result<Found, Unread>
-    ensures { λ r. ⌜ Cases r (λ f. Scripted (now (tokens .entry)) (since (now (sink .entry))) (since (now (sink .exit))) f) (λ e. NotScript (now (tokens .entry)) e) ⌝ }
+    ensures { λ r. ⌜ Cases r (λ f. Scripted (now (tokens .entry)) rows (now (sink .entry)) (now (sink .exit)) f) (λ e. NotScript (now (tokens .entry)) e) ⌝ }
 {
-    let start = start_at(tokens, 0);
+    let start = start_at(tokens, 0, sink.none());
     let found = match record(
         tokens,
         Rest::Statements(Body::Script),

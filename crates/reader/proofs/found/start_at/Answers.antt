@@ -8,8 +8,8 @@ use Rattle.reader.proofs.found.start_at.Needs as need
 
 pub returns-then-at-tokens : need.returns-then-at-tokens
 unfolding view
-returns-then-at-tokens c = record { childless = refl; call = refl; target = refl; lo = ap loOf (sym (drop-cons (c .args .tokens .now) (c .args .at) (record { code = Name; lo = 0; hi = 0 }) (c .if-at-tokens .taken))); hi = refl; end = refl; records = refl; nests = refl; counts = refl }
+returns-then-at-tokens c = record { childless = refl; call = refl; target = refl; lo = ap loOf (sym (drop-cons (c .args .tokens .now) (c .args .at) (record { code = Name; lo = 0; hi = 0 }) (c .if-at-tokens .taken))); hi = refl; end = refl; records = refl; nests = refl; row = refl }
 
 pub returns-else-at-tokens : need.returns-else-at-tokens
 unfolding view
-returns-else-at-tokens c = record { childless = refl; call = refl; target = refl; lo = ap loOf (sym (drop-of-length-le (c .args .tokens .now) (c .if-at-tokens .left))); hi = refl; end = refl; records = refl; nests = refl; counts = refl }
+returns-else-at-tokens c = record { childless = refl; call = refl; target = refl; lo = ap loOf (sym (drop-of-length-le (c .args .tokens .now) (c .if-at-tokens .left))); hi = refl; end = refl; records = refl; nests = refl; row = refl }
