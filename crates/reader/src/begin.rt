@@ -4,7 +4,6 @@ ghost use mathlib.Core.Path.{_≡_};
 ghost use Prim.Native.Nat.{_≤_};
 ghost use lib.ListN.{length};
 ghost use Rattle.grammar.specs.Parser.{prefix, exprDo, stmDo, wordDo, punctuatorDo, operatorDo, opening, stmWord, stmPunctuator, stmOpening, nameDo, unaryDo, updateDo};
-ghost use Rattle.grammar.specs.Codes.{unaryCode};
 ghost use Rattle.grammar.specs.Layout.{codeBegin};
 ghost use Rattle.grammar.specs.Site.{isOther};
 ghost use Rattle.reader.specs.Table.{view, doOf, goalOf};

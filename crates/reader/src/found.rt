@@ -2,12 +2,9 @@
 
 ghost use mathlib.Core.Path.{_≡_};
 ghost use mathlib.Core.Bool.{false, true};
-ghost use Prim.Native.Nat.{_≤_, _<_, _+_, _^_};
+ghost use Prim.Native.Nat.{_≤_, _<_, _+_};
 ghost use lib.ListN.{length};
 ghost use Rattle.kinds.specs.Levels.{fits, isC, isO, isTarget};
-ghost use Rattle.grammar.specs.Derives.{loOf};
-ghost use Rattle.grammar.specs.Tree.{nil};
-ghost use Rattle.reader.specs.Table.{view};
 ghost use Rattle.reader.specs.Reads.{standingOf, Started, Alone, Joined, Completed, Expr};
 use crate::sink::Row;
 use kinds::Form;

@@ -5,7 +5,7 @@ ghost use Prim.Native.Nat.{_≤_};
 ghost use lib.ListN.{length};
 ghost use Rattle.grammar.specs.Parser.{settle};
 ghost use Rattle.reader.specs.declared.rest.Rest.the-variants.{MoreNames, Link as LinkRest, ForInit};
-ghost use Rattle.reader.specs.Table.{view, doOf, toDo, goalOf, partOf, openOf, closeOf, behindOf, partsOf, moreOf, bodyEnd, testedWord, testedEnd, varEnd};
+ghost use Rattle.reader.specs.Table.{view, doOf, toDo, partOf, openOf, closeOf, behindOf, partsOf, moreOf, bodyEnd, testedWord, testedEnd, varEnd};
 use crate::glance::at_stop;
 use crate::glance::opens_at;
 use crate::glance::sees;

@@ -1,14 +1,11 @@
 // Reads a tree: children before their parent, siblings and what follows an expression in loops.
 
 ghost use mathlib.Core.Path.{_≡_};
-ghost use mathlib.Core.Bool.{Bool};
-ghost use Prim.Native.Nat.{_≤_, _<_, _+_, _^_};
+ghost use Prim.Native.Nat.{_≤_};
 ghost use lib.ListN.{length};
 ghost use Rattle.std.specs.Results.{Cases};
-ghost use Rattle.grammar.specs.Parser.{takes, goesOn, frame, next, mode as modeIn};
-ghost use Rattle.grammar.specs.Site.{Attr, isExpression};
-ghost use Rattle.grammar.specs.Layout.{sortOf};
-ghost use Rattle.reader.specs.Table.{view, doOf, goalOf, modeOf, turnOf};
+ghost use Rattle.grammar.specs.Parser.{takes, frame, mode as modeIn};
+ghost use Rattle.reader.specs.Table.{doOf, goalOf, modeOf, turnOf};
 ghost use Rattle.reader.specs.Reads.{standingOf, Parsed, NotParsed, Made, NotMade, Onward, Eaten};
 ghost use Rattle.reader.specs.Width.{Scripted, NotScript, refusedOf};
 use crate::begin::begin;
