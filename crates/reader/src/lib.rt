@@ -7,6 +7,7 @@ pub mod goal;
 pub mod rest;
 pub mod sink;
 pub mod step;
+pub mod store;
 pub mod tree;
 pub mod turn;
 

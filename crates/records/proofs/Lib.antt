@@ -1,0 +1,11 @@
+pub mod AtSlots
+pub mod Frame
+pub mod Pigeon
+pub mod Steps
+pub mod Clearing
+pub mod Stamps
+pub mod Marks
+pub mod Suits
+pub mod Measures
+pub mod Rows
+pub mod Standing
