@@ -8,47 +8,49 @@ use work::Work;
 
 /// With the argument `full` the sizes of the README; otherwise small ones, which only show that it runs.
 fn main(rt: LibcRuntime) -> io::Result<()> {
-    let full = env::args(&rt)?.count() > 1;
-    let by = if full { 100 } else { 1 };
+    let by = if is_full(&rt)? { 100 } else { 1 };
     println!(
         rt,
-        "all: comments on many offsets, and a move from each offset to the next"
+        "offsets: as many comments and moves, on fewer and fewer offsets"
     )?;
-    work::measure(
-        &rt,
-        Work {
-            offsets: 200 * by,
-            each: 3,
-            moves: 200 * by,
-            steps: true,
-        },
-    )?;
-    println!(rt, "lengths: one list goes to and fro between two offsets")?;
-    for each in [1, 10, 100, 600] {
-        work::measure(
-            &rt,
-            Work {
-                offsets: 1,
-                each: each * by,
-                moves: 200 * by,
-                steps: false,
-            },
-        )?;
-    }
-    println!(
-        rt,
-        "offsets: the same number of moves between more and more offsets"
-    )?;
-    for offsets in [25, 50, 100, 200] {
+    for (offsets, each) in [(200, 3), (50, 12), (10, 60)] {
         work::measure(
             &rt,
             Work {
                 offsets: offsets * by,
-                each: 3,
+                each,
                 moves: 200 * by,
-                steps: true,
+            },
+        )?;
+    }
+    println!(rt, "comments: fewer and fewer comments, on as many offsets")?;
+    for each in [2, 1] {
+        work::measure(
+            &rt,
+            Work {
+                offsets: 200 * by,
+                each,
+                moves: 200 * by,
+            },
+        )?;
+    }
+    println!(rt, "lengths: longer and longer lists are joined")?;
+    for each in [2, 6, 60, 6 * by] {
+        work::measure(
+            &rt,
+            Work {
+                offsets: 100,
+                each,
+                moves: 99,
             },
         )?;
     }
     Ok(())
+}
+
+fn is_full(rt: &LibcRuntime) -> io::Result<bool> {
+    match env::args(rt)?.nth(1) {
+        Some(word) => Ok(word.as_str() == "full"),
+        None => Ok(false),
+    }
 }

@@ -24,9 +24,8 @@ pub struct Work {
     /// How many offsets have comments, and how many comments each of them has.
     pub offsets: u32,
     pub each: u32,
+    /// Each move goes from one offset to the next, beginning at 0.
     pub moves: u32,
-    /// Whether each move goes one offset on; otherwise all go to and fro between two offsets.
-    pub steps: bool,
 }
 
 /// Does the work in both stores.
@@ -46,14 +45,9 @@ pub fn measure(rt: &LibcRuntime, work: Work) -> io::Result<()> {
 fn moves_of(heap: Global, work: Work) -> Result<Vec<Move>, AllocError> {
     let mut moves = Vec::new(heap);
     for i in 0..work.moves {
-        let from = if work.steps { i } else { i % 2 };
-        let to = if work.steps {
-            i.saturating_add(1)
-        } else {
-            1 - i % 2
-        };
+        let to = i.saturating_add(1);
         moves.push(Move {
-            from: Place { lo: from, hi: from },
+            from: Place { lo: i, hi: i },
             to: Place { lo: to, hi: to },
         })?;
     }
@@ -74,17 +68,14 @@ fn run<S: Store + Fill>(
     let begin = Instant::now(rt)?;
     carry(store, moves);
     let moved = begin.elapsed(rt)?.as_micros();
-    let last = if work.steps {
-        work.moves
-    } else {
-        work.moves % 2
-    };
-    let gathered = store.count(Side::Leading, last);
+    let last = work.moves;
+    let leading = store.count(Side::Leading, last);
+    let trailing = store.count(Side::Trailing, last);
     let offsets = work.offsets;
     let number = moves.len();
     println!(
         rt,
-        "  {name}: {held} comments on {offsets} offsets, {number} moves, {gathered} at the last offset"
+        "  {name}: {held} comments on {offsets} offsets, {number} moves, {leading} leading and {trailing} trailing at the last offset"
     )?;
     eprintln!(
         rt,
@@ -92,12 +83,17 @@ fn run<S: Store + Fill>(
     )
 }
 
-/// Gives every offset its leading comments, and answers how many the store took.
+/// Gives every offset its comments, leading and trailing ones in turn, and answers how many the store took.
 fn fill_all<S: Fill>(store: &mut S, work: Work) -> u32 {
     let mut held = 0u32;
     for offset in 0..work.offsets {
-        for _ in 0..work.each {
-            if store.put(Side::Leading, offset, held).is_ok() {
+        for i in 0..work.each {
+            let side = if i % 2 == 0 {
+                Side::Leading
+            } else {
+                Side::Trailing
+            };
+            if store.put(side, offset, held).is_ok() {
                 held = held.saturating_add(1);
             }
         }

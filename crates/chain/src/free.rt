@@ -5,6 +5,7 @@ ghost use Prim.Native.Nat.{ℕ, _-_, _<_};
 ghost use lib.ListN.{length, getD};
 ghost use Rattle.std.specs.Options.{Cases as BySome};
 ghost use Rattle.chain.specs.Chain.{room, Slot, link-at, Chain, Off, Drawn, slots-from, after, relinked, Beyond};
+ghost use Rattle.chain.specs.Laws.{Chain-laws};
 use crate::bound::Link;
 
 /// The last slot of the records: those past 65,535 have none, and are never touched.
@@ -90,4 +91,11 @@ pub fn count<T: Link>(slots: &[T], head: u16) -> u16
         at = next;
     }
     last
+}
+
+/// A head has one chain, on which no slot stands twice, and which is no longer than there are slots.
+pub fn chain_laws() -> u8
+    ensures { λ _. ⌜ Chain-laws ⌝ }
+{
+    0
 }

@@ -4,6 +4,7 @@ mod bound;
 mod free;
 
 pub use bound::Link;
+pub use free::chain_laws;
 pub use free::count;
 pub use free::draw;
 pub use free::give_back;

@@ -3,18 +3,25 @@
 --   Once c f        the number c stands in exactly one of the lists f, and there once
 --   Gathered f g    each list of g is a joining of lists of f, and each list of f is in exactly one place
 --   Call            a comment put last into a list, or a list moved
---   After x f g     the lists g are those of f after the call x, as the contracts of the stores have it
---   Played xs f g   the same after a list of calls
---   Same-meaning    stores with equal lists have equal lists after equal calls, whatever they are made of
+--   After x b f n g m   from the lists f with room for n comments the call x led to the lists g with room for m, as the contracts of
+--                   the stores have it; b says whether it was accepted (a move always is)
+--   Played xs bs ..     the same of a list of calls, with the list of their answers
+--   Same-meaning    two stores with equal lists and equal room give equal answers to equal calls, and have equal lists and equal room
+--                   afterwards, whatever they are made of
 --
 -- Assumes nothing.
 use Prim.Native.Nat.{ℕ}
 use mathlib.Core.Path.{_≡_}
+use mathlib.Core.Bool.{Bool, true}
 use mathlib.Core.List.{List, [], _∷_}
 use Rattle.std.specs.Joined.{joined}
+use Rattle.std.specs.Results.{isOk}
+use Rattle.std.specs.declared.result.Result.{Result}
+use Rattle.refusal.specs.declared.Refusal.{Refusal}
 use Rattle.chain.specs.Chain.{times}
 use Rattle.comments.specs.declared.store.Side.{Side}
-use Rattle.comments.specs.Lists.{Lists, added, shifted}
+use Rattle.comments.specs.Lists.{Lists, shifted}
+use Rattle.comments.specs.Filling.{Fills}
 
 abbrev pub Once : ℕ → (ℕ → List ℕ) → Type 0
 Once c f = (k : ℕ) × (times c (f k) ≡ 1) × ((j : ℕ) → (j ≡ k → ⊥) → times c (f j) ≡ 0)
@@ -32,13 +39,20 @@ pub data Call : Type 0 where
 abbrev pub Equal : Lists → Lists → Type 0
 Equal f g = (side : Side) (k : ℕ) → f side k ≡ g side k
 
-abbrev pub After : Call → Lists → Lists → Type 0
-After (put side k c) f g = Equal g (added f side k c)
-After (move side from to) f g = Equal g (shifted side f from to)
+abbrev pub After : Call → Bool → Lists → ℕ → Lists → ℕ → Type 0
+After (put side k c) b f n g m = (r : Result (Unit {0}) Refusal) × (isOk r ≡ b) × Fills f g n m side k c r
+After (move side from to) b f n g m = (b ≡ true) × Equal g (shifted side f from to) × (m ≡ n)
 
-abbrev pub Played : List Call → Lists → Lists → Type 0
-Played [] f g = Equal g f
-Played (x ∷ xs) f h = (g : Lists) × After x f g × Played xs g h
+abbrev pub Played : List Call → List Bool → Lists → ℕ → Lists → ℕ → Type 0
+Played [] [] f n g m = Equal g f × (m ≡ n)
+Played [] (b ∷ bs) f n g m = ⊥
+Played (x ∷ xs) [] f n g m = ⊥
+Played (x ∷ xs) (b ∷ bs) f n h l = (g : Lists) × (m : ℕ) × After x b f n g m × Played xs bs g m h l
 
 abbrev pub Same-meaning : Type 0
-Same-meaning = (xs : List Call) (f g f′ g′ : Lists) → Equal f g → Played xs f f′ → Played xs g g′ → Equal f′ g′
+Same-meaning =
+    (xs : List Call) (cs bs : List Bool) (f g f′ g′ : Lists) (n n′ m′ : ℕ)
+    → Equal f g
+    → Played xs cs f n f′ n′
+    → Played xs bs g n g′ m′
+    → (cs ≡ bs) × Equal f′ g′ × (n′ ≡ m′)

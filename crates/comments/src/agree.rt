@@ -48,7 +48,8 @@ pub fn carry_both<A: Store, B: Store>(a: &mut A, b: &mut B, moves: &[Move])
     carry(b, moves);
 }
 
-/// Stores with equal lists have equal lists after equal calls, whatever they are made of.
+/// Two stores with equal lists and equal room give equal answers to equal calls, and have equal lists and equal room
+/// afterwards, whatever they are made of.
 pub fn same_meaning() -> u8
     ensures { λ _. ⌜ Same-meaning ⌝ }
 {

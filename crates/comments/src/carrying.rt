@@ -11,6 +11,7 @@ use crate::store::Store;
 /// `from.hi` to `to.hi`.
 pub fn carry<S: Store>(store: &mut S, moves: &[Move])
     ensures made { λ _. ⌜ ((side : Side) (k : ℕ) → lists (now (store .exit)) side k ≡ carried side (lists (now (store .entry)) side) (now (moves .entry)) k) ⌝ }
+    ensures vacant { λ _. ⌜ vacant (now (store .exit)) ≡ vacant (now (store .entry)) ⌝ }
     ensures gathered { λ _. ⌜ ((side : Side) → Gathered (lists (now (store .entry)) side) (lists (now (store .exit)) side)) ⌝ }
     ensures once { λ _. ⌜ ((side : Side) (c : ℕ) → Once c (lists (now (store .entry)) side) → Once c (lists (now (store .exit)) side)) ⌝ }
 {

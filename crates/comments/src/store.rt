@@ -19,13 +19,18 @@ pub trait Store {
     // The list on a side at an offset.
     ghost lists: { Self → Side → ℕ → List ℕ };
 
+    // For how many more comments there is room.
+    ghost vacant: { Self → ℕ };
+
     /// Puts the leading list at `from` before that at `to`, and empties `from`. Equal offsets change nothing.
     fn move_leading(&mut self, from: u32, to: u32)
-        ensures moved { λ _. ⌜ ((side : Side) (k : ℕ) → lists (now (self .exit)) side k ≡ shifted Leading (lists (now (self .entry))) from to side k) ⌝ };
+        ensures moved { λ _. ⌜ ((side : Side) (k : ℕ) → lists (now (self .exit)) side k ≡ shifted Leading (lists (now (self .entry))) from to side k) ⌝ }
+        ensures vacant { λ _. ⌜ vacant (now (self .exit)) ≡ vacant (now (self .entry)) ⌝ };
 
     /// Puts the trailing list at `from` after that at `to`, and empties `from`. Equal offsets change nothing.
     fn move_trailing(&mut self, from: u32, to: u32)
-        ensures moved { λ _. ⌜ ((side : Side) (k : ℕ) → lists (now (self .exit)) side k ≡ shifted Trailing (lists (now (self .entry))) from to side k) ⌝ };
+        ensures moved { λ _. ⌜ ((side : Side) (k : ℕ) → lists (now (self .exit)) side k ≡ shifted Trailing (lists (now (self .entry))) from to side k) ⌝ }
+        ensures vacant { λ _. ⌜ vacant (now (self .exit)) ≡ vacant (now (self .entry)) ⌝ };
 
     /// How many comments the list has.
     fn count(&self, side: Side, offset: u32) -> usize

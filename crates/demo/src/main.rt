@@ -8,9 +8,6 @@ mod words;
 use std::io;
 
 fn main(rt: LibcRuntime) -> io::Result<()> {
-    let mut line = String::new(rt.alloc());
-    rt.read_line(&mut line)?;
-    task::play(&rt, line.as_str().trim_end())?;
-    task::stumble(&rt, "rate # kg")?;
+    task::play(&rt)?;
     promises::show_promises(&rt)
 }

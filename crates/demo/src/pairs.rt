@@ -6,6 +6,7 @@ use std::alloc::Global;
 use token::Code;
 use token::Punctuator;
 use token::Token;
+use token::Word;
 
 /// The moves of the pairs that go, from the inner pair to the outer one.
 pub fn moves_of(heap: Global, tokens: &[Token]) -> Result<Vec<Move>, AllocError> {
@@ -41,12 +42,17 @@ fn place_at(tokens: &[Token], first: usize, last: usize) -> Place {
     }
 }
 
-/// Whether two tokens are the parentheses of a pair, and not of a call's arguments.
+/// Whether two tokens are the parentheses of a pair, and not of arguments, parameters or a statement's head.
 fn is_pair(tokens: &[Token], first: usize, last: usize) -> bool {
-    let calls = first > 0 && ends_operand(tokens.get(first - 1).copied());
+    let begins = first == 0 || before_operand(tokens.get(first.saturating_sub(1)).copied());
+    let arrow = is_punctuator(
+        tokens.get(last.saturating_add(1)).copied(),
+        Punctuator::Arrow,
+    );
     is_punctuator(tokens.get(first).copied(), Punctuator::OpenParen)
         && is_punctuator(tokens.get(last).copied(), Punctuator::CloseParen)
-        && !calls
+        && begins
+        && !arrow
 }
 
 fn is_punctuator(token: Option<Token>, punctuator: Punctuator) -> bool {
@@ -56,13 +62,38 @@ fn is_punctuator(token: Option<Token>, punctuator: Punctuator) -> bool {
     }
 }
 
-/// Whether a token may end an operand, so that a parenthesis behind it opens arguments.
-fn ends_operand(token: Option<Token>) -> bool {
+/// Whether an operand begins behind a token, whatever stands before that.
+fn before_operand(token: Option<Token>) -> bool {
     match token {
-        Some(token) => matches!(
-            token.code,
-            Code::Name | Code::Punctuator(Punctuator::CloseParen | Punctuator::CloseBracket)
-        ),
+        Some(token) => match token.code {
+            Code::Operator(_) | Code::AssignOperator(_) => true,
+            Code::Punctuator(sign) => opens_operand(sign),
+            Code::Word(word) => matches!(
+                word,
+                Word::Typeof
+                    | Word::Void
+                    | Word::Delete
+                    | Word::In
+                    | Word::Instanceof
+                    | Word::Return
+                    | Word::Await
+                    | Word::Yield
+            ),
+            Code::Name | Code::Number | Code::String => false,
+        },
         None => false,
     }
+}
+
+fn opens_operand(sign: Punctuator) -> bool {
+    matches!(
+        sign,
+        Punctuator::OpenParen
+            | Punctuator::OpenBracket
+            | Punctuator::Comma
+            | Punctuator::Semicolon
+            | Punctuator::Question
+            | Punctuator::Colon
+            | Punctuator::Arrow
+    )
 }

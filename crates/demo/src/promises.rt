@@ -23,7 +23,7 @@ pub fn promises() -> [&'static str; 4]
 }
 
 pub fn show_promises(rt: &LibcRuntime) -> io::Result<()> {
-    println!(rt, "8. What is proved of every list of tokens:")?;
+    println!(rt, "7. What is proved of every list of tokens:")?;
     for sentence in promises() {
         println!(rt, "   {sentence}")?;
     }

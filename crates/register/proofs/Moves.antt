@@ -1,10 +1,12 @@
 -- A move joins two lists.
-use Prim.Native.Nat.{ℕ}
+use Prim.Native.Nat.{ℕ, _-_}
 use mathlib.Core.Path.{_≡_, refl, sym, ap, _∙_}
 use mathlib.Core.Logic.{⊎-elim}
 use mathlib.Core.Bool.{Bool, true, false, cond, _||_}
 use mathlib.Core.List.{List, [], _++_}
 use lib.Dec.{eqb}
+use lib.ListN.{length, drop}
+use Rattle.std.proofs.shelf.Lists.{length-drop}
 use Rattle.std.proofs.shelf.Tests.{cond-true, cond-false, cases-bool, ne-eqb}
 use Rattle.comments.specs.declared.store.Side.{Side}
 use Rattle.comments.specs.declared.store.Side.the-variants.{Leading, Trailing}
@@ -33,3 +35,7 @@ pub trailed : (f : Lists) (from to : ℕ) → (from ≡ to → ⊥) → (at : Si
 trailed f from to ne Leading k = refl
 trailed f from to ne Trailing k =
     move-cases k from to (f Trailing to ++ f Trailing from) (f Trailing k) (eqb k to || eqb k from) ne (λ e. ap (λ (y : Bool). y || eqb k from) e)
+
+-- where the records that are no entries stay, there is room for as many more
+pub room-kept : {X : Type 0} (xs ys : List X) (a b : ℕ) → drop a xs ≡ drop b ys → length xs - a ≡ length ys - b
+room-kept xs ys a b e = sym (length-drop a xs) ∙ ap length e ∙ length-drop b ys

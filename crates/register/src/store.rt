@@ -7,7 +7,7 @@ ghost use Rattle.comments.specs.declared.store.Side.{Side};
 ghost use Rattle.comments.specs.declared.store.Side.the-variants.{Leading, Trailing};
 ghost use Rattle.comments.specs.Lists.{shifted};
 ghost use Rattle.register.specs.Joins.{together};
-ghost use Rattle.register.specs.Held.{lists-of, beyond};
+ghost use Rattle.register.specs.Held.{lists-of, spare-of, beyond};
 use crate::joining::Joining;
 use crate::records::Register;
 use comments::Side;
@@ -37,9 +37,12 @@ impl<'a> Register<'a> {
 pub impl<'a> Store for Register<'a> as RegisterStore {
     ghost lists = { λ r. lists-of r };
 
+    ghost vacant = { λ r. spare-of r };
+
     /// The records that are not yet entries stay as they are.
     fn move_leading(&mut self, from: u32, to: u32)
         ensures moved { λ _. ⌜ ((side : Side) (k : ℕ) → lists-of (now (self .exit)) side k ≡ shifted Leading (lists-of (now (self .entry))) from to side k) ⌝ }
+        ensures vacant { λ _. ⌜ spare-of (now (self .exit)) ≡ spare-of (now (self .entry)) ⌝ }
         ensures beyond { λ _. ⌜ beyond (now (self .exit)) ≡ beyond (now (self .entry)) ⌝ }
         ensures lender { λ _. ⌜ name (now (self .exit) .entries .slots) ≡ name (now (self .entry) .entries .slots) ⌝ }
     {
@@ -50,6 +53,7 @@ pub impl<'a> Store for Register<'a> as RegisterStore {
 
     fn move_trailing(&mut self, from: u32, to: u32)
         ensures moved { λ _. ⌜ ((side : Side) (k : ℕ) → lists-of (now (self .exit)) side k ≡ shifted Trailing (lists-of (now (self .entry))) from to side k) ⌝ }
+        ensures vacant { λ _. ⌜ spare-of (now (self .exit)) ≡ spare-of (now (self .entry)) ⌝ }
         ensures beyond { λ _. ⌜ beyond (now (self .exit)) ≡ beyond (now (self .entry)) ⌝ }
         ensures lender { λ _. ⌜ name (now (self .exit) .entries .slots) ≡ name (now (self .entry) .entries .slots) ⌝ }
     {

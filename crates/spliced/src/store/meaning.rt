@@ -14,9 +14,11 @@ use comments::Store;
 pub impl<'a> Store for Spliced<'a> as SplicedStore {
     ghost lists = { lists-in };
 
+    ghost vacant = { spare };
+
     fn move_leading(&mut self, from: u32, to: u32)
         ensures moved { λ _. ⌜ ((side : Side) (k : ℕ) → lists-in (now (self .exit)) side k ≡ shifted Leading (lists-in (now (self .entry))) from to side k) ⌝ }
-        ensures spare { λ _. ⌜ spare (now (self .exit)) ≡ spare (now (self .entry)) ⌝ }
+        ensures vacant { λ _. ⌜ spare (now (self .exit)) ≡ spare (now (self .entry)) ⌝ }
         ensures beyond { λ _. ⌜ Beyond (now (now (self .entry) .chains .notes .slots)) (now (now (self .exit) .chains .notes .slots)) ⌝ ∗ ⌜ Beyond (now (now (self .entry) .chains .heads .slots)) (now (now (self .exit) .chains .heads .slots)) ⌝ }
         ensures lender { λ _. ⌜ name (now (self .exit) .chains .notes .slots) ≡ name (now (self .entry) .chains .notes .slots) ⌝ ∗ ⌜ name (now (self .exit) .chains .heads .slots) ≡ name (now (self .entry) .chains .heads .slots) ⌝ }
     {
@@ -25,7 +27,7 @@ pub impl<'a> Store for Spliced<'a> as SplicedStore {
 
     fn move_trailing(&mut self, from: u32, to: u32)
         ensures moved { λ _. ⌜ ((side : Side) (k : ℕ) → lists-in (now (self .exit)) side k ≡ shifted Trailing (lists-in (now (self .entry))) from to side k) ⌝ }
-        ensures spare { λ _. ⌜ spare (now (self .exit)) ≡ spare (now (self .entry)) ⌝ }
+        ensures vacant { λ _. ⌜ spare (now (self .exit)) ≡ spare (now (self .entry)) ⌝ }
         ensures beyond { λ _. ⌜ Beyond (now (now (self .entry) .chains .notes .slots)) (now (now (self .exit) .chains .notes .slots)) ⌝ ∗ ⌜ Beyond (now (now (self .entry) .chains .heads .slots)) (now (now (self .exit) .chains .heads .slots)) ⌝ }
         ensures lender { λ _. ⌜ name (now (self .exit) .chains .notes .slots) ≡ name (now (self .entry) .chains .notes .slots) ⌝ ∗ ⌜ name (now (self .exit) .chains .heads .slots) ≡ name (now (self .entry) .chains .heads .slots) ⌝ }
     {

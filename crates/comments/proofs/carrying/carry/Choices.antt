@@ -7,4 +7,5 @@ use Rattle.comments.proofs.carrying.carry.Given as given
 
 abbrev pub Inv-loop-m : given.InvT-loop-m
 Inv-loop-m g l =
-    (side : Side) (k : ℕ) → g .S·Store .lists (l .store) side k ≡ carried side (g .S·Store .lists (l .entry .store) side) (take (l .m-index) (l .moves)) k
+    ((side : Side) (k : ℕ) → g .S·Store .lists (l .store) side k ≡ carried side (g .S·Store .lists (l .entry .store) side) (take (l .m-index) (l .moves)) k)
+    × (g .S·Store .vacant (l .store) ≡ g .S·Store .vacant (l .entry .store))

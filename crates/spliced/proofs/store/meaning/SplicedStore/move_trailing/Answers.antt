@@ -11,7 +11,7 @@ pub returns : need.returns
 returns c =
     record {
       moved = λ side k. list-from _ _ (c .args .self .now .laid) (λ p. c .splice .ensures .laid p .1 side k);
-      spare = same-room _ _ _ _ _ _ (c .splice .ensures .held) (c .splice .ensures .notes .0) (c .splice .ensures .heads .0);
+      vacant = same-room _ _ _ _ _ _ (c .splice .ensures .held) (c .splice .ensures .notes .0) (c .splice .ensures .heads .0);
       beyond = (c .splice .ensures .notes, c .splice .ensures .heads);
       lender = c .splice .ensures .lender;
     }
