@@ -1,8 +1,7 @@
 -- The productions that a restriction goes with hold.
-use mathlib.Core.Path.{_≡_, refl, sym, subst, ap}
-use Prim.Native.Nat.{ℕ}
-use mathlib.Core.Bool.{Bool, true, false, cond, not, _&&_, _||_}
-use mathlib.Core.List.{List, [], _∷_}
+use mathlib.Core.Path.{_≡_, refl, sym, subst}
+use mathlib.Core.Bool.{Bool, true, false, cond, not, _||_}
+use mathlib.Core.List.{List, _∷_}
 use lib.Dec.{T, eqb}
 use Rattle.token.specs.Same.{sameCode}
 use Rattle.token.specs.declared.Token.{Token}
@@ -15,12 +14,12 @@ use Rattle.kinds.specs.declared.form.Form.the-variants as form
 use Rattle.kinds.specs.declared.level.Slot.the-variants as slot
 use Rattle.grammar.specs.Codes.{openBrace, wordFunction}
 use Rattle.grammar.specs.Site.{Attr, Begin, brace, function, other, isBrace, isOther, isSort, sortRank, valued, block, isExpression, isStatement}
-use Rattle.grammar.specs.Tree.{headOf, Tree, Forest, node, nil, _▸_, _⊕_}
+use Rattle.grammar.specs.Tree.{Tree, Forest, nil, _▸_, _⊕_}
 use Rattle.grammar.specs.Layout.{Lay, end, stop, tok, kid, layout, isIn, inOperator, anyOpen, codeBegin, lastDangles, attrOf, attr, attrs}
-use Rattle.grammar.specs.Derives.{Derives, derive, d-end, d-stop, d-tok, d-kid}
+use Rattle.grammar.specs.Derives.{derive, d-stop, d-tok}
 use Rattle.grammar.specs.Productions.{Expression, AssignmentExpression, StatementExpression, FunctionBody, ConciseBody, NoInExpression, IdentifierName, Statement, StatementBeforeElse}
 use Rattle.grammar.specs.Contexts.{NoIn, NoneOpen, NoIns, Lookaheads, BeforeElse, WithoutIn}
-use Rattle.grammar.proofs.Tests.{and-l, and-r, and-i, or-l, or-r, is-false}
+use Rattle.grammar.proofs.Tests.{and-l, and-r, and-i, or-l, or-r}
 use Rattle.grammar.proofs.Fills.{fold, derives-good}
 use Rattle.grammar.proofs.Steps.{Claim}
 use Rattle.grammar.proofs.Every.{claim}

@@ -3,7 +3,7 @@ use mathlib.Core.Path.{_≡_, refl, sym, _∙_, ap, ap₂}
 use mathlib.Core.Bool.{cond}
 use lib.Dec.{T}
 use Rattle.grammar.specs.Tree.{Head, Tree, Forest, node, nil, _▸_, _⊕_}
-use Rattle.grammar.specs.Core.{Role, rPar, rSeq, rVoid, rIdle, rIf, rBlock, rRest, rChain, role, isSeq, left, effs, effss, lasts, flat, join, settled, settleds}
+use Rattle.grammar.specs.Core.{Role, rPar, rSeq, rVoid, rIdle, rIf, rBlock, rRest, rChain, role, isSeq, left, effs, effss, lasts, flat, settled, settleds}
 use Rattle.grammar.specs.Rewriting.{some?}
 
 pub ⊕-nil : (us : Forest) → us ⊕ nil ≡ us
@@ -78,11 +78,6 @@ pub flat-cores-⊕ : (us vs : Forest) → T (some? vs) → flat (settleds (us �
 unfolding settleds
 flat-cores-⊕ us nil h = absurd h
 flat-cores-⊕ us (v ▸ vs) h = ap flat (cores-⊕ us (v ▸ vs)) ∙ flat-⊕ (settleds us) (settled v) (settleds vs)
-
--- the settled of a record, by its role
-pub core-of : (L : Head) (us : Forest) → settled (node L us) ≡ join (role L) L (settleds us)
-unfolding settled
-core-of L us = refl
 
 pub effs-void : (L : Head) (us : Forest) → role L ≡ rVoid → effs (settled (node L us)) ≡ effss (settleds us)
 unfolding settled effs

@@ -114,10 +114,6 @@ cond-some : {A : Type 0} (b : Bool) (x y : A) → cond b (some x) none ≡ some 
 cond-some true x y h = (tt, (cc))
 cond-some false x y h = absurd (Option·none-ne-some y h)
 
-no-rest : (r : List Token) → T (empty r) → r ≡ []
-no-rest [] h = refl
-no-rest (k ∷ ks) h = absurd h
-
 -- What the reader accepts is a good script that is written so.
 accepted : (ts : List Token) (x : Res) (t : Tree) → checked ts x ≡ some t → T (ok root (attr t)) × Good t × (wr false t [] ≡ codes ts)
 accepted ts none t h = absurd (Option·none-ne-some t h)

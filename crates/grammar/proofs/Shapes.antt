@@ -29,9 +29,6 @@ mutual
 same-attrs : (us vs : Forest) → shapes us ≡ shapes vs → attrs us ≡ attrs vs
 same-attrs us vs e = sym (attrs-shape us) ∙ (ap attrs e ∙ attrs-shape vs)
 
-same-attr : (u v : Tree) → shape u ≡ shape v → attr u ≡ attr v
-same-attr u v e = sym (attr-shape u) ∙ (ap attr e ∙ attr-shape v)
-
 -- The tokens ks begin with a tree of the shape of t, and what follows has the codes k.
 abbrev Read : Site → Tree → List Token → List Code → Type 0
 Read s t ks k = (u : Tree) × (r : List Token) × (shape u ≡ shape t) × (codes r ≡ k) × Derives s u ks r

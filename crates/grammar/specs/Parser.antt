@@ -6,7 +6,6 @@
 --   After, after c  what the token c does behind an expression
 --   takes b p s g   an expression of the standing s, read for the slot p, goes on with the token that does g (b: `in` may stand here)
 --   parse n b q ks  a tree for the goal q at the head of ks, and what follows it; n bounds the steps
---   read ts         the tree that the tokens ts read as, or none
 --
 -- Assumes nothing.
 use Prim.Native.Nat.{ℕ, zero, suc}

@@ -6,12 +6,14 @@
 --   Good-full        every good tree is full
 --   Core-law         from a tree without the places that do not count, some steps lead to its core form; wherever steps lead and no more can be made,
 --                    that is the core form; and in the core form none can be made
+--   Steps-shrink     each step makes the tree smaller, so there is an end to them
 --
 -- Assumes nothing.
 use mathlib.Core.Path.{_≡_}
+use Prim.Native.Nat.{_<_}
 use mathlib.Core.Bool.{Bool, true, false}
 use lib.Dec.{T}
-use Rattle.grammar.specs.Tree.{Head, Tree, Forest, node, nil, _▸_, _⊕_}
+use Rattle.grammar.specs.Tree.{Head, Tree, Forest, node, nil, _▸_, _⊕_, size}
 use Rattle.grammar.specs.Layout.{Good}
 use Rattle.grammar.specs.Core.{Link, Role, rPar, rSeq, rVoid, rIdle, rIf, rBlock, rRest, rChain, role, clear, core}
 
@@ -67,3 +69,6 @@ Good-full = (t : Tree) → Good t → Full t
 
 abbrev pub Core-law : Type 0
 Core-law = (t : Tree) → Full t → Comes (clear t) (core t) × ((n : Tree) → Comes (clear t) n → ((u : Tree) → Step n u → ⊥) → n ≡ core t) × ((u : Tree) → Step (core t) u → ⊥)
+
+abbrev pub Steps-shrink : Type 0
+Steps-shrink = (t u : Tree) → Step t u → size u < size t

@@ -1,6 +1,6 @@
 // The grammar of rules, and that no token list has two readings. The definitions stand in `specs`; each function here carries one law.
 
-ghost use Rattle.grammar.specs.Rewriting.{Core-law, Good-full};
+ghost use Rattle.grammar.specs.Rewriting.{Core-law, Good-full, Steps-shrink};
 ghost use Rattle.grammar.specs.Productions.{Units, Productions, Lists};
 ghost use Rattle.grammar.specs.Contexts.{Lookaheads, BeforeElse, WithoutIn};
 ghost use Rattle.grammar.specs.Examples.{Examples-hold, Cores-hold};
@@ -49,6 +49,13 @@ pub fn core_form_law() -> u8
     0
 }
 
+/// Each step of the core form's rules makes a tree smaller, so applying them comes to an end.
+pub fn core_steps_shrink() -> u8
+    ensures { λ _. ⌜ Steps-shrink ⌝ }
+{
+    0
+}
+
 /// No good tree has an empty sequence, so the law of the core form speaks of every good tree.
 pub fn good_is_full() -> u8
     ensures { λ _. ⌜ Good-full ⌝ }
@@ -76,7 +83,8 @@ pub fn places_law() -> u8
     0
 }
 
-/// Both hold of every part of a script, at the site where it stands and with what follows it.
+/// The laws of `derived_is_good` and of `good_is_derived` hold of every part of a script too, at the site where it stands and with what
+/// follows it: a derived part is good and writes its tokens, and tokens spelled as a good part is written derive one of its shape.
 pub fn parts_are_good() -> u8
     ensures good { λ _. ⌜ Part-good ⌝ }
     ensures derives { λ _. ⌜ Part-derives ⌝ }

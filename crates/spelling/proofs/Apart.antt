@@ -1,6 +1,5 @@
 -- No two codes are spelled alike: a code is found again from its spelling, by trying every code in turn.
 use Prim.Native.Nat.{ℕ}
-use native.Mathlib.Omega.{arith}
 use mathlib.Core.Path.{_≡_, refl, sym, _∙_, ap, subst}
 use mathlib.Core.Bool.{cond}
 use mathlib.Core.List.{List, [], _∷_}
@@ -126,9 +125,6 @@ found (code.AssignOperator x) s e = ap lookup (same-text s (assignSpelling x) e)
 
 same-code : (c d : Code) → _≡_ {A = Option Code} (Some c) (Some d) → c ≡ d
 same-code c d e = cc
-
-no-code : (c : Code) → _≡_ {A = Option Code} None (Some c) → ⊥
-no-code c e = let z : _≡_ {A = ℕ} 0 1 = cc in omega arith
 
 pub spelled-apart : Spelled-apart
 spelled-apart c d s p q = same-code c d (sym (found c s p) ∙ found d s q)
