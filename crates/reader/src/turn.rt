@@ -4,7 +4,7 @@ ghost use mathlib.Core.Path.{_≡_};
 ghost use Prim.Native.Nat.{_≤_};
 ghost use lib.ListN.{length};
 ghost use Rattle.grammar.specs.Parser.{after, next, wordAfter, punctuatorAfter, operatorAfter, frame, binaryFrame, firstSlot, isFrame};
-ghost use Rattle.grammar.specs.Layout.{rightSlot};
+ghost use Rattle.kinds.specs.Levels.{rightSlot};
 ghost use Rattle.grammar.specs.Codes.{binaryCode, updateCode};
 ghost use mathlib.Core.Bool.{cond};
 ghost use Rattle.reader.specs.Table.{view, turnOf, doOf, Turns, Grows};
