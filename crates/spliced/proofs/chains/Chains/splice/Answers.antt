@@ -17,24 +17,24 @@ returns-then-from-to c =
       lender = (refl, refl);
     }
 
-pub returns-in-default : goal.returns-in-default
-returns-in-default c =
+pub returns-in_default : goal.returns-in_default
+returns-in_default c =
     record {
       idle = c.requires.idle;
-      laid = λ p. (p, shifted_empty c.args.side _ c.args.from c.args.to c.if-from-to.false ((means _ _ _ _ _ p.0 p.1 p.2 p.3).missing c.args.side c.args.from c.in-default.ensures.finds));
+      laid = λ p. (p, shifted_empty c.args.side _ c.args.from c.args.to c.if-from-to.false ((means _ _ _ _ _ p.0 p.1 p.2 p.3).missing c.args.side c.args.from c.in_default.ensures.finds));
       held = refl;
       notes = beyond_none _;
       heads = beyond_none _;
       lender = (refl, refl);
     }
 
-pub returns-in-default-find : goal.returns-in-default-find
-returns-in-default-find c =
+pub returns-in_default-find : goal.returns-in_default-find
+returns-in_default-find c =
     let s = c.in-Some.ensures.finds in
     let found : At _ c.args.side c.args.from c.in-Some.source.head c.in-Some.source.list = record { slot_in = s.0; holds = s.1; keyed = s.2 } in
     record {
       idle = c.hold.ensures.idle;
-      laid = relabel _ _ _ _ _ _ _ c.args.side c.args.from c.args.to c.in-Some.source.head c.in-Some.source.list c.if-from-to.false found c.in-default-find.ensures.finds c.hold.ensures.records c.hold.ensures.free;
+      laid = relabel _ _ _ _ _ _ _ c.args.side c.args.from c.args.to c.in-Some.source.head c.in-Some.source.list c.if-from-to.false found c.in_default-find.ensures.finds c.hold.ensures.records c.hold.ensures.free;
       held = refl;
       notes = beyond_none _;
       heads = beyond_written _ _ c.in-Some.source.head _ s.0 c.hold.ensures.records;
