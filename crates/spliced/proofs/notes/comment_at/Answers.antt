@@ -1,4 +1,4 @@
-use Rattle.std.proofs.Common.{◌≡◌, ℕ, ◌+◌, Some, None, sym, ap, ◌∙◌, subst, arith}
+use Rattle.std.proofs.Common.{ℕ, ◌+◌, sym, subst, arith}
 use Rattle.std.proofs.lemmas.List.{length-map}
 use Rattle.chain.proofs.Records.{slot_links, slot_records}
 use Rattle.spliced.specs.declared.notes.Note.{Note}
@@ -26,7 +26,7 @@ loop-preserved c =
 
 pub returns : goal.returns
 returns c =
-    left_read (links c.args.slots.now) c.args.first c.loop.at c.loop.counter c.args.rank (comment_at (comments c.args.slots.now)) c.comment-of.result
-    (rw length-map c.comment-of.ensures)
+    left_read (links c.args.slots.now) c.args.first c.loop.at c.loop.counter c.args.rank (comment_at (comments c.args.slots.now)) c.comment_of.result
+    (rw length-map c.comment_of.ensures)
     (omega arith)
     c.loop.invariant
