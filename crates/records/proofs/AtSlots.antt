@@ -1,9 +1,8 @@
 -- What is read and written at a slot, and the free chain in terms of the records.
-use Rattle.std.proofs.Common.{◌≡◌, ℕ, ◌+◌, ◌-◌, ◌<◌, ◌≤◌, ◌≢◌, ◌⊎◌, List, [], ◌∷◌, map, length, get_or, set, sym, refl, ap, ◌∙◌, subst, inl, inr, ⊎_elim, arith, length-set}
+use Rattle.std.proofs.Common.{◌≡◌, ℕ, ◌-◌, ◌<◌, ◌≤◌, ◌≢◌, List, length, set, sym, ap, ◌∙◌, ⊎_elim, arith}
 use Rattle.std.proofs.lemmas.Bool.{cases_lt}
-use Rattle.std.proofs.lemmas.List.{length-map, get_or-map, get_or_past, map-set, get_or-set_same, get_or-set_other, set-set}
-use Rattle.chain.specs.Chain.{room, Slot, link_at, Chain, is, times}
-use Rattle.chain.proofs.Laws.{chain_kept}
+use Rattle.std.proofs.lemmas.List.{length-map, get_or-map, get_or_past, get_or-set_same, get_or-set_other, set-set}
+use Rattle.chain.specs.Chain.{room, Slot, link_at}
 use Rattle.records.specs.declared.record.Record.{Record}
 use Rattle.records.specs.Record.{at, links, vacant, relinked}
 

@@ -1,7 +1,7 @@
 -- What changes elsewhere leave: siblings stand where their own records keep heads and links, and so does the free chain.
-use Rattle.std.proofs.Common.{◌≡◌, ℕ, ◌+◌, ◌-◌, ◌<◌, ◌≤◌, ◌≢◌, ◌⊎◌, List, [], ◌∷◌, length, set, sym, refl, ap, ◌∙◌, subst, inl, inr, ⊎_elim, arith, length-set}
+use Rattle.std.proofs.Common.{◌≡◌, ℕ, ◌+◌, ◌-◌, ◌<◌, ◌≤◌, ◌≢◌, ◌⊎◌, List, length, set, sym, refl, ap, ◌∙◌, subst, inl, inr, ⊎_elim, arith, length-set}
 use Rattle.std.proofs.lemmas.Bool.{cases_eq}
-use Rattle.chain.specs.Chain.{room, Slot, Chain, is, times}
+use Rattle.chain.specs.Chain.{room, Chain, is, times}
 use Rattle.chain.proofs.Counting.{is_same, is_cases}
 use Rattle.chain.proofs.Laws.{chain_kept}
 use Rattle.records.specs.declared.record.Record.{Record}

@@ -1,5 +1,5 @@
 -- The records of siblings are as many, and nest as deep, as the trees that they stand for.
-use Rattle.std.proofs.Common.{◌≡◌, ℕ, ◌+◌, max, refl, arith}
+use Rattle.std.proofs.Common.{◌≡◌, refl, arith}
 use Rattle.grammar.specs.Tree.{node, nil, ◌▸◌}
 use Rattle.grammar.specs.Tree as trees
 use Rattle.records.specs.Siblings.{Siblings, none, sibling, forest, size, depth, Measured}

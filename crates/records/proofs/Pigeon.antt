@@ -1,8 +1,8 @@
 -- No siblings have more records than there are slots; so a walk with that many steps finds them whole.
-use Rattle.std.proofs.Common.{◌≡◌, ℕ, zero, suc, ◌+◌, ◌<◌, ◌≤◌, List, [], ◌∷◌, ◌++◌, length, sym, refl, ap, ◌∙◌, subst, arith}
+use Rattle.std.proofs.Common.{◌≡◌, ℕ, zero, suc, ◌<◌, ◌≤◌, List, [], ◌∷◌, ◌++◌, length, sym, refl, subst, arith}
 use Rattle.std.proofs.lemmas.List.{length-append}
 use Rattle.std.specs.List.{AllByRecursion as All}
-use Rattle.chain.specs.Chain.{room, is, times}
+use Rattle.chain.specs.Chain.{room, times}
 use Rattle.chain.proofs.Counting.{times_append, no_longer}
 use Rattle.records.specs.declared.record.Record.{Record}
 use Rattle.records.specs.Record.{head_of, at}

@@ -1,16 +1,16 @@
 -- A row of siblings grows: a parent is put over it, a tree comes behind it.
-use Rattle.std.proofs.Common.{◌≡◌, ℕ, zero, suc, ◌+◌, ◌-◌, ◌<◌, ◌≤◌, ◌≢◌, ◌⊎◌, List, [], ◌∷◌, map, length, set, sym, refl, ap, ◌∙◌, subst, inl, inr, ⊎_elim, arith, length-set}
+use Rattle.std.proofs.Common.{◌≡◌, ℕ, ◌+◌, ◌-◌, ◌<◌, ◌≤◌, ◌≢◌, List, [], ◌∷◌, length, set, sym, refl, ap, ◌∙◌, subst, arith, length-set}
 use Rattle.chain.specs.Chain.{room, Slot, Chain, is, times}
 use Rattle.chain.proofs.Counting.{is_same}
-use Rattle.grammar.specs.Tree.{Head, head, Tree, Forest, node, nil, ◌▸◌, ◌⊕◌, sizes}
+use Rattle.grammar.specs.Tree.{Head, Tree, Forest, node, nil, ◌▸◌, ◌⊕◌, sizes}
 use Rattle.records.specs.declared.record.Record.{Record}
 use Rattle.records.specs.declared.record.Mark.TheVariants as mark
 use Rattle.records.specs.Record.{head_of, at, links, relinked}
-use Rattle.records.specs.Siblings.{Siblings, none, sibling, forest, size, count, Holds, Loose, Kept, Plain}
+use Rattle.records.specs.Siblings.{Siblings, none, sibling, forest, size, count, Holds, Loose}
 use Rattle.records.specs.Building.{last_of, behind, Row}
 use Rattle.records.proofs.AtSlots.{length_links, link_of_lem, at_same, at_other}
 use Rattle.records.proofs.Measures.{size_forest}
-use Rattle.records.proofs.Frame.{Alike, alike, frame, outside, outside_chain, in_range, plain_write}
+use Rattle.records.proofs.Frame.{alike, frame, outside, outside_chain, in_range, plain_write}
 
 pub count_behind : (k : ℕ) (f g : Siblings) → count k (behind f g) ≡ count k f + count k g
 count_behind k none g = omega arith

@@ -1,8 +1,8 @@
 -- Rows that stand wherever there are records enough: nothing is asked of whoever puts them up.
-use Rattle.std.proofs.Common.{◌≡◌, ℕ, zero, suc, ◌+◌, ◌-◌, ◌<◌, ◌≤◌, ◌≢◌, List, [], ◌∷◌, length, set, Some, None, Option, unwrap_or, sym, refl, ap, ◌∙◌, subst, arith, MatchOption}
-use Rattle.chain.specs.Chain.{room, Slot, Chain, times}
+use Rattle.std.proofs.Common.{◌≡◌, ℕ, ◌+◌, ◌-◌, ◌<◌, ◌≤◌, ◌≢◌, List, length, set, Some, None, Option, unwrap_or, sym, ap, ◌∙◌, subst, arith, MatchOption}
+use Rattle.chain.specs.Chain.{Slot}
 use Rattle.chain.proofs.Laws.{chain_once}
-use Rattle.grammar.specs.Tree.{Head, head, Tree, Forest, node, nil, ◌▸◌, ◌⊕◌, size, sizes}
+use Rattle.grammar.specs.Tree.{Head, Tree, Forest, node, nil, ◌▸◌, ◌⊕◌, size, sizes}
 use Rattle.records.specs.declared.record.Record.{Record}
 use Rattle.records.specs.declared.record.Mark.TheVariants as mark
 use Rattle.records.specs.Record.{head_of, at, links}

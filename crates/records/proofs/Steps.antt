@@ -1,6 +1,6 @@
 -- Giving siblings back, turn by turn: a head with no child goes to the free chain; a head with a child is turned, so that the child
 -- stands before it.
-use Rattle.std.proofs.Common.{◌≡◌, ℕ, zero, suc, ◌+◌, ◌-◌, ◌*◌, ◌<◌, ◌≤◌, ◌≢◌, ◌⊎◌, List, [], ◌∷◌, map, length, set, sym, refl, ap, ◌∙◌, subst, inl, inr, ⊎_elim, arith, length-set}
+use Rattle.std.proofs.Common.{◌≡◌, ℕ, ◌+◌, ◌-◌, ◌<◌, ◌≤◌, ◌≢◌, List, ◌∷◌, length, set, sym, refl, ap, ◌∙◌, subst, arith, length-set}
 use mathlib.Core.Logic.{∥∥₁_elim, ∥∥₁_map}
 use mathlib.Core.HLevel.{×_prop}
 use native.Mathlib.Bridge.{le_prop}
@@ -13,10 +13,10 @@ use Rattle.grammar.specs.Tree.{Head}
 use Rattle.records.specs.declared.record.Record.{Record}
 use Rattle.records.specs.declared.record.Mark.TheVariants as mark
 use Rattle.records.specs.Record.{head_of, vacant, at, links}
-use Rattle.records.specs.Siblings.{Siblings, none, sibling, size, count, Holds, Apart, Loose, Kept, Moved, siblings_at, weight, Given, Plain}
+use Rattle.records.specs.Siblings.{Siblings, none, sibling, size, count, Holds, Loose, Kept, Moved, siblings_at, weight, Given, Plain}
 use Rattle.records.proofs.AtSlots.{length_links, at_same, at_other}
 use Rattle.records.proofs.Pigeon.{found, size_most}
-use Rattle.records.proofs.Frame.{Alike, alike, outside, outside_chain, plain_write}
+use Rattle.records.proofs.Frame.{Alike, outside, outside_chain, plain_write}
 
 -- a head with no child goes to the free chain
 pub free_one :

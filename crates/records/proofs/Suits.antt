@@ -1,19 +1,15 @@
 -- A derived tree is formed: what fits its site, with levels, beginnings and `in`, is of the site's sort.
-use Rattle.std.proofs.Common.{◌≡◌, ℕ, ◌≤◌, Bool, true, false, not, ◌&&◌, ◌||◌, T, List, [], ◌∷◌, sym, refl, subst}
+use Rattle.std.proofs.Common.{Bool, true, false, ◌||◌, T, List}
 use Rattle.kinds.specs.Levels.{fits}
-use Rattle.kinds.specs.declared.level.Slot.TheVariants as slot
 use Rattle.kinds.specs.declared.form.Form.{Form}
 use Rattle.kinds.specs.declared.form.Form.TheVariants as form
 use Rattle.kinds.specs.declared.form.Binding.TheVariants as binding
-use Rattle.token.specs.declared.Token.{Token}
-use Rattle.grammar.specs.Tree.{Head, Tree, Forest, node, nil, ◌▸◌, head_of, depth}
-use Rattle.grammar.specs.Site.{Attr, is_sort, is_expression, is_brace, expression, statement, block, declaration, script, Site, at, start, body, block_only, stmt, closed, init, var_init, var_in, prop, plain_name, valued_name, key_name, root, ok}
-use Rattle.grammar.specs.Layout.{Lay, end, stop, tok, kid, layout, attr_of, attr, attrs, fit_kids, good, goods, Good}
-use Rattle.grammar.specs.Claim.{Reads}
+use Rattle.grammar.specs.Tree.{Tree, Forest, node, nil, ◌▸◌, head_of}
+use Rattle.grammar.specs.Site.{Attr, expression, statement, block, declaration, Site, at, start, body, block_only, stmt, closed, init, var_init, var_in, prop, plain_name, valued_name, key_name, root, ok}
+use Rattle.grammar.specs.Layout.{Lay, end, stop, tok, kid, layout, attr_of, attr, attrs, fit_kids, good, goods}
 use Rattle.grammar.proofs.Tests.{and_l, and_r, and_i, or_l, or_r}
 use Rattle.grammar.proofs.Exact.{derived_good}
-use Rattle.records.specs.declared.record.Mark.TheVariants as mark
-use Rattle.records.specs.Formed.{of, holed, value_like, statement_like, suited, suits, formed, all_formed, Sound, DerivedSound}
+use Rattle.records.specs.Formed.{of, holed, value_like, statement_like, suited, suits, formed, all_formed, DerivedSound}
 
 plain_suited : (f : Form) (cs : List Attr) → T (ok plain_name (attr_of f cs)) → T (suited plain_name f)
 plain_suited form.Free cs h = h

@@ -8,9 +8,9 @@
 --   Stands s from t free first last us   so it is, wherever the free chain that began at `from` had records enough for the trees us
 --
 -- Assumes nothing.
-use Rattle.std.specs.Prelude.{◌≡◌, ℕ, ◌+◌, ◌<◌, ◌≤◌, List, [], ◌∷◌, length}
+use Rattle.std.specs.Prelude.{◌≡◌, ℕ, ◌+◌, ◌≤◌, List, length}
 use Rattle.chain.specs.Chain.{Chain, times}
-use Rattle.grammar.specs.Tree.{Head, Forest, node, nil, ◌▸◌, sizes}
+use Rattle.grammar.specs.Tree.{Forest, sizes}
 use Rattle.records.specs.declared.record.Record.{Record}
 use Rattle.records.specs.Record.{links}
 use Rattle.records.specs.Siblings.{Siblings, none, sibling, forest, size, count, Loose, Kept, Plain}

@@ -8,7 +8,7 @@
 --   DerivedSound  a derived tree that nests at most 512 deep is sound as a loaded tree
 --
 -- Assumes nothing.
-use Rattle.std.specs.Prelude.{ℕ, ◌≤◌, Bool, true, false, ◌&&◌, ◌||◌, T, List, ◌==◌}
+use Rattle.std.specs.Prelude.{◌≤◌, Bool, true, false, ◌&&◌, ◌||◌, T, List, ◌==◌}
 use Rattle.kinds.specs.Kinds.{rank, kind_of}
 use Rattle.kinds.specs.declared.kind.Kind.{Kind}
 use Rattle.kinds.specs.declared.kind.Kind.TheVariants as kind
@@ -19,7 +19,7 @@ use Rattle.grammar.specs.Site.{Sort, sort_rank, expression, statement, block, de
 use Rattle.grammar.specs.Layout.{Lay, end, stop, tok, kid, layout, sort_of, attrs}
 use Rattle.token.specs.declared.Token.{Token}
 use Rattle.grammar.specs.Claim.{Reads}
-use Rattle.grammar.specs.Tree.{Head, Tree, Forest, node, nil, ◌▸◌, head_of, depth}
+use Rattle.grammar.specs.Tree.{Tree, Forest, node, nil, ◌▸◌, head_of, depth}
 use Rattle.records.specs.declared.record.Mark.{Mark}
 use Rattle.records.specs.declared.record.Mark.TheVariants as mark
 

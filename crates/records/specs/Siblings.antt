@@ -13,7 +13,7 @@
 --   Given s t f ks free f was given back whole: the free chain from `free` on has its records and those of ks
 --
 -- Assumes nothing.
-use Rattle.std.specs.Prelude.{◌≡◌, ℕ, zero, suc, ◌+◌, ◌*◌, ◌<◌, ◌≤◌, max, List, [], ◌∷◌, length}
+use Rattle.std.specs.Prelude.{◌≡◌, ℕ, zero, suc, ◌+◌, ◌*◌, ◌<◌, ◌≤◌, max, List, length}
 use Rattle.chain.specs.Chain.{room, Chain, is, times}
 use Rattle.grammar.specs.Tree.{Head, Forest, node, nil, ◌▸◌}
 use Rattle.grammar.specs.Tree as trees

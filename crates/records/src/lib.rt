@@ -1,5 +1,7 @@
 // The records of trees: what a record holds, what a slot stands for, and how records are drawn and given back.
 
+#![tactic(auto)]
+
 mod build;
 mod give_back;
 mod laws;

@@ -1,4 +1,4 @@
-use Rattle.std.proofs.Common.{◌≡◌, ℕ, ◌<◌, ◌≤◌, ◌≢◌, length, sym, refl, ap, ◌∙◌, subst, arith, length-set}
+use Rattle.std.proofs.Common.{◌≡◌, ◌<◌, ◌≤◌, length, sym, ap, ◌∙◌, subst, arith, length-set}
 use Rattle.chain.specs.Chain.{room}
 use Rattle.records.specs.declared.record.Record.{Record}
 use Rattle.records.proofs.Steps.{alive, alive_child, head_off, leaf_turn, child_turn, falls, again, ended, Left}

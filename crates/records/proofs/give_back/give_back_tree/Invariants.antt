@@ -1,4 +1,4 @@
-use Rattle.std.proofs.Common.{◌≡◌, ℕ, ◌^◌, ◌<◌, List, length}
+use Rattle.std.proofs.Common.{ℕ, List, length}
 use Rattle.chain.specs.Chain.{room}
 use Rattle.records.specs.Siblings.{Siblings, Loose, siblings_at, weight}
 use Rattle.records.proofs.Steps.{Left}
