@@ -1,17 +1,17 @@
 -- The free and the occupied records are all there are: each slot is met once, so a list of all that are met is as long as
 -- there are slots.
-use Rattle.std.proofs.Common.{◌≡◌, ℕ, zero, suc, ◌+◌, ◌-◌, ◌<◌, ◌≤◌, eqb, ◌≢◌, ◌⊎◌, List, [], ◌∷◌, ◌++◌, length, sym, refl, ap, ◌∙◌, subst, inl, inr, ⊎_elim, arith}
+use Rattle.std.proofs.Common.{◌≡◌, ℕ, zero, suc, ◌+◌, ◌<◌, ◌≤◌, eqb, List, [], ◌∷◌, ◌++◌, length, refl, ap, ◌∙◌, ⊎_elim, arith}
 use Rattle.std.proofs.lemmas.Bool.{cases_eq, cases_lt, cond-true, cond-false, eq-eqb, ne_eqb}
 use Rattle.std.proofs.lemmas.List.{length-append}
 use Rattle.std.specs.List.{AllByRecursion as All}
-use Rattle.chain.specs.Chain.{room, Slot, is, times}
+use Rattle.chain.specs.Chain.{room, times}
 use Rattle.chain.proofs.Counting.{is_same, is_unlike, times_append, no_longer}
 use Rattle.grammar.specs.Tree.{Tree, node, nil, ◌▸◌}
 use Rattle.grammar.specs.Tree as trees
-use Rattle.records.specs.Siblings.{Siblings, forest, size, count}
+use Rattle.records.specs.Siblings.{size}
 use Rattle.records.proofs.Pigeon.{slots_of, times_slots, length_slots}
 use Rattle.records.proofs.Measures.{size_forest}
-use Rattle.toolkit.specs.Ledger.{State, Entry, siblings, tree, counts, occupied, Ledger, Balanced}
+use Rattle.toolkit.specs.Ledger.{Entry, siblings, tree, counts, occupied, Balanced}
 use Rattle.toolkit.specs.Run.{strike}
 use Rattle.toolkit.proofs.Books.{at_most}
 use Rattle.toolkit.proofs.Runs.{times_strike}

@@ -1,14 +1,12 @@
 -- What follows from a ledger: no slot is met twice, a marked record is a root, and an entry can be picked out.
-use Rattle.std.proofs.Common.{◌≡◌, ℕ, zero, suc, ◌+◌, ◌-◌, ◌<◌, ◌≤◌, ◌≢◌, ◌⊎◌, List, [], ◌∷◌, length, sym, refl, ap, ◌∙◌, subst, inl, inr, ⊎_elim, arith}
-use mathlib.Core.Logic.{∥∥₁_map}
+use Rattle.std.proofs.Common.{◌≡◌, ℕ, ◌+◌, ◌<◌, ◌≤◌, ◌≢◌, List, [], ◌∷◌, length, sym, refl, ap, ◌∙◌, subst, ⊎_elim, arith}
 use Rattle.std.proofs.lemmas.Bool.{cases_eq, cases_lt}
 use Rattle.chain.specs.Chain.{room, Slot, is, times}
 use Rattle.chain.proofs.Counting.{is_same, is_cases}
 use Rattle.records.specs.declared.record.Record.{Record}
-use Rattle.records.specs.declared.record.Mark.{Mark}
 use Rattle.records.specs.declared.record.Mark.TheVariants as mark
 use Rattle.records.specs.Record.{at}
-use Rattle.records.specs.Siblings.{Siblings, count, Holds, Loose}
+use Rattle.records.specs.Siblings.{count, Holds}
 use Rattle.records.specs.Formed.{Sound}
 use Rattle.records.proofs.Frame.{alike, frame}
 use Rattle.toolkit.specs.Ledger.{State, Entry, siblings, tree, counts, roots, Stand, Ledger, Without, first, later}

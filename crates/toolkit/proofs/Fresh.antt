@@ -1,10 +1,10 @@
 -- The ledger of a pool just made.
-use Rattle.std.proofs.Common.{◌≡◌, ℕ, zero, suc, ◌+◌, ◌-◌, ◌<◌, ◌≤◌, ◌≢◌, ◌⊎◌, List, [], ◌∷◌, length, sym, refl, ap, ◌∙◌, subst, inl, inr, ⊎_elim, arith}
-use Rattle.chain.specs.Chain.{room, Slot, Chain, is, times, slots_from, Beyond}
-use Rattle.chain.proofs.Counting.{is_same, is_unlike, is_cases}
+use Rattle.std.proofs.Common.{◌≡◌, ℕ, zero, suc, ◌+◌, ◌<◌, ◌≤◌, ◌≢◌, List, length, refl, ap, subst, ⊎_elim, arith}
+use Rattle.chain.specs.Chain.{room, Slot, Chain, times, slots_from, Beyond}
+use Rattle.chain.proofs.Counting.{is_unlike, is_cases}
 use Rattle.records.specs.declared.record.Record.{Record}
 use Rattle.records.specs.Record.{at, links, vacant}
-use Rattle.toolkit.specs.Ledger.{State, state, Ledger}
+use Rattle.toolkit.specs.Ledger.{state}
 use Rattle.toolkit.specs.Calls.{Fresh}
 
 pub length_from : (k n : ℕ) → length (slots_from k n) ≡ n

@@ -1,29 +1,27 @@
 -- A tree put up from free records, and its root marked: one more entry of the ledger.
-use Rattle.std.proofs.Common.{◌≡◌, ℕ, zero, suc, ◌+◌, ◌-◌, ◌<◌, ◌≤◌, max, ◌≢◌, ◌⊎◌, List, [], ◌∷◌, length, set, sym, refl, ap, ◌∙◌, subst, inl, inr, ⊎_elim, arith, length-set}
+use Rattle.std.proofs.Common.{◌≡◌, ℕ, ◌+◌, ◌-◌, ◌<◌, ◌≤◌, ◌≢◌, List, ◌∷◌, length, sym, refl, ap, ◌∙◌, subst, arith, length-set}
 use mathlib.Core.Logic.{∥∥₁_map}
-use Rattle.std.proofs.lemmas.Bool.{cases_eq}
 use Rattle.chain.specs.Chain.{room, Slot, is, times}
-use Rattle.chain.proofs.Counting.{is_same, is_unlike, is_cases}
+use Rattle.chain.proofs.Counting.{is_same}
 use Rattle.token.specs.declared.Token.{Token}
 use Rattle.grammar.specs.Tree.{Head, Tree, Forest, node, nil, ◌▸◌}
 use Rattle.grammar.specs.Tree as trees
 use Rattle.grammar.specs.Claim.{Reads}
 use Rattle.records.specs.declared.record.Record.{Record}
-use Rattle.records.specs.declared.record.Mark.{Mark}
 use Rattle.records.specs.declared.record.Mark.TheVariants as mark
-use Rattle.records.specs.Record.{head_of, at, marked, stamped}
+use Rattle.records.specs.Record.{at, marked, stamped}
 use Rattle.records.specs.Siblings.{Siblings, none, sibling, forest, size, count, Holds, Loose, Kept}
 use Rattle.records.specs.Building.{Row, Stands}
 use Rattle.records.specs.Formed.{Sound}
 use Rattle.records.proofs.AtSlots.{at_same, at_other}
-use Rattle.records.proofs.Frame.{Alike, alike, frame, frame_chain}
+use Rattle.records.proofs.Frame.{Alike, frame, frame_chain}
 use Rattle.records.proofs.Stamps.{stamped_alike}
 use Rattle.records.proofs.Measures.{size_forest}
 use Rattle.records.proofs.Suits.{derived_sound}
 use Rattle.toolkit.specs.declared.trees.Key.{Key}
-use Rattle.toolkit.specs.Ledger.{State, state, Entry, siblings, tree, counts, roots, Ledger}
+use Rattle.toolkit.specs.Ledger.{State, state, Entry, siblings, counts, roots, Ledger}
 use Rattle.toolkit.specs.Calls.{Raised, Loading}
-use Rattle.toolkit.proofs.Books.{at_most, roots_counts, frame_stand}
+use Rattle.toolkit.proofs.Books.{at_most, frame_stand}
 
 -- siblings that stand for one tree are one record with its children
 pub single : (g : Siblings) (u : Tree) → forest g ≡ u ▸ nil → (k : ℕ) × (d : Head) × (A : Siblings) × (g ≡ sibling k d A none) × (node d (forest A) ≡ u)

@@ -1,11 +1,10 @@
 -- A tree given back: the ledger before, what the records' layer gives, and the ledger after.
-use Rattle.std.proofs.Common.{◌≡◌, ℕ, zero, suc, ◌+◌, ◌-◌, ◌<◌, ◌≤◌, ◌≢◌, ◌⊎◌, List, [], ◌∷◌, length, sym, refl, ap, ◌∙◌, subst, inl, inr, ⊎_elim, arith}
+use Rattle.std.proofs.Common.{◌≡◌, ℕ, ◌+◌, ◌<◌, ◌≤◌, ◌≢◌, List, length, sym, refl, ap, ◌∙◌, subst, ⊎_elim, arith}
 use mathlib.Core.Logic.{∥∥₁_map}
 use Rattle.std.proofs.lemmas.Bool.{cases_eq}
 use Rattle.chain.specs.Chain.{room, Slot, is, times}
 use Rattle.chain.proofs.Counting.{is_same, is_unlike}
 use Rattle.records.specs.declared.record.Record.{Record}
-use Rattle.records.specs.declared.record.Mark.{Mark}
 use Rattle.records.specs.declared.record.Mark.TheVariants as mark
 use Rattle.records.specs.Record.{mark_number, at, marked, stamped}
 use Rattle.records.specs.Siblings.{Siblings, count, Loose, Given}
@@ -14,9 +13,9 @@ use Rattle.toolkit.specs.declared.trees.Key.{Key}
 use Rattle.toolkit.specs.declared.trees.Tree.{Tree as Held}
 use Rattle.toolkit.specs.declared.trees.Tree.TheVariants as held
 use Rattle.toolkit.specs.Keys.{key}
-use Rattle.toolkit.specs.Ledger.{State, state, Entry, siblings, counts, roots, Ledger, Without}
+use Rattle.toolkit.specs.Ledger.{State, Entry, siblings, counts, roots, Ledger}
 use Rattle.toolkit.specs.Calls.{Valid, Released, Unloaded}
-use Rattle.toolkit.proofs.Books.{at_most, roots_counts, without_counts, without_roots, Picked, pick, frame_stand, marked_root}
+use Rattle.toolkit.proofs.Books.{at_most, without_counts, without_roots, Picked, pick, frame_stand, marked_root}
 
 module _ (a : State) (k : ℕ) (sl : Slot (length a.slots) k) (m : (at a.slots k).mark ≢ mark.Unmarked) where
   pub picked : (ks : List ℕ) (ps : List Entry) → Ledger a ks ps → Picked a.slots k ps

@@ -1,12 +1,10 @@
 -- The law over lists of calls: each step settles the ledger, so a run does.
-use Rattle.std.proofs.Common.{◌≡◌, ℕ, zero, suc, ◌+◌, ◌-◌, ◌<◌, ◌≤◌, cond, eqb, ◌≢◌, ◌⊎◌, List, [], ◌∷◌, ◌++◌, length, sym, refl, ap, ◌∙◌, subst, inl, inr, ⊎_elim, arith}
+use Rattle.std.proofs.Common.{◌≡◌, ℕ, ◌+◌, ◌-◌, ◌≤◌, eqb, List, [], ◌∷◌, sym, refl, ap, ◌∙◌, subst, ⊎_elim, arith}
 use Rattle.std.proofs.lemmas.Bool.{cases_eq, cond-true, cond-false, eq-eqb, ne_eqb}
 use Rattle.chain.specs.Chain.{is, times}
-use Rattle.chain.proofs.Counting.{is_same, is_unlike, is_cases, times_append}
-use Rattle.records.specs.declared.record.Record.{Record}
-use Rattle.toolkit.specs.declared.trees.Key.{Key}
-use Rattle.toolkit.specs.Ledger.{State, Entry, roots, Ledger, Without}
-use Rattle.toolkit.specs.Calls.{Answer, done, refused, Fresh, Released, Unload, Raised, Read}
+use Rattle.chain.proofs.Counting.{is_unlike, is_cases, times_append}
+use Rattle.toolkit.specs.Ledger.{State, Entry, roots, Ledger}
+use Rattle.toolkit.specs.Calls.{done, refused, Released, Raised}
 use Rattle.toolkit.specs.Run.{Event, read, unload, Step, Run, start, then, gives, leaves, strike, strike_all, outstanding, Accounted, AlwaysAccounted}
 use Rattle.toolkit.proofs.Books.{without_roots}
 

@@ -8,14 +8,13 @@
 --
 -- Assumes nothing.
 use Rattle.std.specs.Prelude.{◌≡◌, ℕ, ◌+◌, ◌<◌, ◌≤◌, ◌⊎◌, List, [], ◌∷◌, length, Ok, Err, Result}
-use Rattle.chain.specs.Chain.{room, Slot, Chain, times, Beyond}
+use Rattle.chain.specs.Chain.{room, Slot, times, Beyond}
 use Rattle.token.specs.declared.Token.{Token}
 use Rattle.grammar.specs.Tree.{Tree, size, depth}
 use Rattle.grammar.specs.Claim.{Reads}
 use Rattle.refusal.specs.declared.Refusal.{Refusal}
 use Rattle.refusal.specs.declared.Refusal.TheVariants as refusal
 use Rattle.records.specs.declared.record.Record.{Record}
-use Rattle.records.specs.declared.record.Mark.{Mark}
 use Rattle.records.specs.declared.record.Mark.TheVariants as mark
 use Rattle.records.specs.Record.{at}
 use Rattle.records.specs.Siblings.{none, count, Kept}

@@ -14,7 +14,7 @@
 --   Without p ps qs   the entries ps are p and, in their order, the others qs
 --
 -- Assumes nothing.
-use Rattle.std.specs.Prelude.{◌≡◌, ℕ, ◌+◌, ◌<◌, ◌≤◌, List, [], ◌∷◌, length}
+use Rattle.std.specs.Prelude.{◌≡◌, ℕ, ◌+◌, ◌<◌, List, [], ◌∷◌, length}
 use Rattle.chain.specs.Chain.{room, Slot, Chain, is, times}
 use Rattle.grammar.specs.Tree.{Head, Tree, node, size}
 use Rattle.records.specs.declared.record.Record.{Record}

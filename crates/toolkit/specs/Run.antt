@@ -8,7 +8,7 @@
 --   Accounted z rs   in z each record is found once, on the free chain or in one tree, and the trees' roots are rs
 --
 -- Assumes nothing.
-use Rattle.std.specs.Prelude.{◌≡◌, ℕ, ◌+◌, cond, List, [], ◌∷◌, ◌++◌, ◌==◌}
+use Rattle.std.specs.Prelude.{◌≡◌, ℕ, cond, List, [], ◌∷◌, ◌++◌, ◌==◌}
 use Rattle.chain.specs.Chain.{times}
 use Rattle.token.specs.declared.Token.{Token}
 use Rattle.records.specs.declared.record.Record.{Record}

@@ -1,4 +1,6 @@
 // The calls on a pool of records. Every call tests what it is given, and says what it answers and what it leaves.
+#![tactic(auto)]
+
 ghost use Rattle.toolkit.specs.Ledger.{Balanced};
 ghost use Rattle.toolkit.specs.Run.{AlwaysAccounted};
 

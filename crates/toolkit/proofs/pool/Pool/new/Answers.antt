@@ -5,7 +5,7 @@ use Rattle.toolkit.proofs.pool.Pool.new.Goals as goal
 pub invariant_of-result : goal.invariant_of-result
 invariant_of-result c =
     let f = fresh c.args.number _ _ _ c.new.ensures.chain c.new.ensures.records c.new.ensures.beyond in
-    (∣ (f.ledger.0, [], f.ledger.1) ∣₁, tt)
+    record { accounted = ∣ (f.ledger.0, [], f.ledger.1) ∣₁ }
 
 pub returns : goal.returns
 returns c =
