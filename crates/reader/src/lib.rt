@@ -1,7 +1,6 @@
 // The reader: one grammar in code, as a table of what is left to read of a record, and the walk over it.
 #![tactic(auto)]
 
-
 pub mod begin;
 pub mod found;
 pub mod glance;

@@ -107,7 +107,7 @@ fn record<S: Sink>(
     requires within { start.end ≤ length tokens.now }
     requires few { start.size ≤ start.end }
     requires nests { start.depth ≤ start.size }
-    ensures { MatchResult result (λ f. Made tokens.now allow_in (do_of begun) start rows sink.old sink.new f) (λ e. NotMade tokens.now allow_in (do_of begun) start inner e) }
+    ensures { MatchResult result (λ f. Made tokens.now allow_in (do_of begun) start S.rows sink.old sink.new f) (λ e. NotMade tokens.now allow_in (do_of begun) start inner e) }
 {
     let mut rest = begun;
     let mut parts = start;
@@ -153,7 +153,7 @@ fn tree<S: Sink>(
     sink: &mut S,
 ) -> Result<Found, Unread>
     requires { at ≤ length tokens.now }
-    ensures { MatchResult result (λ f. Parsed tokens.now at allow_in (goal_of goal) rows sink.old sink.new f) (λ e. NotParsed tokens.now at allow_in (goal_of goal) room e) }
+    ensures { MatchResult result (λ f. Parsed tokens.now at allow_in (goal_of goal) S.rows sink.old sink.new f) (λ e. NotParsed tokens.now at allow_in (goal_of goal) room e) }
 {
     if room == 0 {
         return Err(Unread::TooDeep);
@@ -193,7 +193,7 @@ fn refused(len: usize, why: Unread) -> Unread
 /// The script that the tokens are, as far as their order decides: whether each child may stand where it stands is not
 /// looked at. It goes into the sink.
 fn script<S: Sink>(tokens: &[Token], sink: &mut S) -> Result<Found, Unread>
-    ensures { MatchResult result (λ f. Scripted tokens.now rows sink.old sink.new f) (λ e. NotScript tokens.now e) }
+    ensures { MatchResult result (λ f. Scripted tokens.now S.rows sink.old sink.new f) (λ e. NotScript tokens.now e) }
 {
     let start = start_at(tokens, 0, sink.none());
     let found = match record(
