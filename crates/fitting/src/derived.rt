@@ -6,7 +6,7 @@ ghost use Rattle.grammar.specs.Site.{Attr};
 ghost use Rattle.grammar.specs.Layout.{attr_of, is_in};
 ghost use Rattle.fitting.specs.Traits.{traits_of, begin_of};
 ghost use Rattle.fitting.specs.Summary.{Sums};
-ghost use Rattle.fitting.specs.Derived.{open_of, for_open, bare, opening_of, begins as beginsOf, tail_of, dangling, whole_of, declares, one_name};
+ghost use Rattle.fitting.specs.Derived.{open_of, for_open, bare, opening_of, begins as begins_of, tail_of, dangling, whole_of, declares, one_name};
 
 use crate::summary::Summary;
 use crate::traits::{Begin, Traits};
@@ -158,7 +158,7 @@ fn opens_with(form: Form) -> Opening
 }
 
 fn begins(opening: Opening, children: Summary) -> Begin
-    ensures { (cs : List Attr) → Sums cs children → begin_of result ≡ beginsOf opening cs }
+    ensures { (cs : List Attr) → Sums cs children → begin_of result ≡ begins_of opening cs }
 {
     match opening {
         Opening::Token(begin) => begin,

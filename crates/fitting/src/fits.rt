@@ -5,7 +5,7 @@ ghost use Rattle.grammar.specs.Site.{Attr, init, stmt};
 ghost use Rattle.grammar.specs.Layout.{layout, fit_kids, init_site, left_site};
 ghost use Rattle.fitting.specs.Traits.{site_of};
 ghost use Rattle.fitting.specs.Summary.{Sums};
-ghost use Rattle.fitting.specs.Sites.{none as noneOf, one as one_of, two as twoOf, three as threeOf, four as fourOf, heads as headsOf, ends as endsOf, asks_key, asks_link, asks_for, asks, is_complete, entry_site};
+ghost use Rattle.fitting.specs.Sites.{none as none_of, one as one_of, two as two_of, three as three_of, four as four_of, heads as heads_of, ends as ends_of, asks_key, asks_link, asks_for, asks, is_complete, entry_site};
 ghost use Rattle.kinds.specs.declared.form.Form.TheVariants as form;
 
 use crate::site::Site;
@@ -31,7 +31,7 @@ impl Declared {
 impl Summary {
     /// Whether there are no children.
     fn none(self) -> bool
-        ensures { (cs : List Attr) → Sums cs self → result ≡ noneOf cs }
+        ensures { (cs : List Attr) → Sums cs self → result ≡ none_of cs }
     {
         self.number == 0
     }
@@ -44,13 +44,13 @@ impl Summary {
     }
 
     fn two(self, first: Site, second: Site) -> bool
-        ensures { (cs : List Attr) → Sums cs self → result ≡ twoOf (site_of first) (site_of second) cs }
+        ensures { (cs : List Attr) → Sums cs self → result ≡ two_of (site_of first) (site_of second) cs }
     {
         (self.number == 2) & (self.first.may_stand(first) & self.second.may_stand(second))
     }
 
     fn three(self, first: Site, second: Site, third: Site) -> bool
-        ensures { (cs : List Attr) → Sums cs self → result ≡ threeOf (site_of first) (site_of second) (site_of third) cs }
+        ensures { (cs : List Attr) → Sums cs self → result ≡ three_of (site_of first) (site_of second) (site_of third) cs }
     {
         (self.number == 3)
             & (self.first.may_stand(first)
@@ -58,7 +58,7 @@ impl Summary {
     }
 
     fn four(self, first: Site, second: Site, third: Site, fourth: Site) -> bool
-        ensures { (cs : List Attr) → Sums cs self → result ≡ fourOf (site_of first) (site_of second) (site_of third) (site_of fourth) cs }
+        ensures { (cs : List Attr) → Sums cs self → result ≡ four_of (site_of first) (site_of second) (site_of third) (site_of fourth) cs }
     {
         (self.number == 4)
             & (self.first.may_stand(first)
@@ -68,14 +68,14 @@ impl Summary {
 
     /// Whether the first child may stand at the site, and each other where a value does.
     fn heads(self, first: Site) -> bool
-        ensures { (cs : List Attr) → Sums cs self → result ≡ headsOf (site_of first) cs }
+        ensures { (cs : List Attr) → Sums cs self → result ≡ heads_of (site_of first) cs }
     {
         (self.number > 0) & (self.first.may_stand(first) & self.arguments)
     }
 
     /// Whether the last child may stand at the site, and each other is a plain Name.
     fn ends(self, last: Site) -> bool
-        ensures { (cs : List Attr) → Sums cs self → result ≡ endsOf (site_of last) cs }
+        ensures { (cs : List Attr) → Sums cs self → result ≡ ends_of (site_of last) cs }
     {
         (self.number > 0) & (self.parameters & self.last.may_stand(last))
     }
@@ -143,7 +143,7 @@ fn for_in_fits(children: Summary) -> bool
 
 /// No child, or one at the site.
 fn at_most_one(children: Summary, only: Site) -> bool
-    ensures { (cs : List Attr) → Sums cs children → result ≡ (noneOf cs || one_of (site_of only) cs) }
+    ensures { (cs : List Attr) → Sums cs children → result ≡ (none_of cs || one_of (site_of only) cs) }
 {
     children.none() | children.one(only)
 }
