@@ -1,10 +1,10 @@
 -- What is true of every chain, for the layers that keep chains: a head has one chain, which has no slot twice and is no
 -- longer than there are slots; a record that is not on it may be linked anew; two chains are joined by one link.
-use Rattle.std.proofs.Common.{◌≡◌, ℕ, zero, suc, ◌+◌, ◌-◌, ◌<◌, ◌≤◌, ◌≢◌, ◌⊎◌, List, [], ◌∷◌, ◌++◌, length, get_or, set, sym, refl, ap, ◌∙◌, subst, inl, inr, ⊎_elim, arith, length-set}
-use Rattle.std.proofs.lemmas.List.{get_or-set_same, get_or-set_other, length-append}
+use Rattle.std.proofs.Common.{◌≡◌, ℕ, zero, suc, ◌+◌, ◌-◌, ◌<◌, ◌≤◌, ◌≢◌, ◌⊎◌, List, [], ◌∷◌, ◌++◌, length, set, sym, refl, ap, ◌∙◌, subst, inl, inr, ⊎_elim, arith, length-set}
+use Rattle.std.proofs.lemmas.List.{get_or-set_same, get_or-set_other}
 use Rattle.std.specs.List.{AllByRecursion as All}
-use Rattle.chain.specs.Chain.{room, Slot, link_at, Chain, is, times, Off}
-use Rattle.chain.proofs.Counting.{is_same, is_unlike, is_cases, times_append, no_longer}
+use Rattle.chain.specs.Chain.{room, Slot, link_at, Chain, is, times}
+use Rattle.chain.proofs.Counting.{is_same, is_cases, times_append, no_longer}
 
 -- a head has one chain
 pub chain_unique : (m : List ℕ) (h : ℕ) (ks js : List ℕ) → Chain m h ks → Chain m h js → ks ≡ js

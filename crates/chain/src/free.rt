@@ -18,8 +18,8 @@ pub fn last_slot<T>(slots: &[T]) -> u16
 
 /// Chains all slots in their order, and answers where that chain begins.
 pub fn make<T: Link>(slots: &mut [T]) -> u16
-    ensures chain { Chain (map link slots.new) result (slots_from 1 (room (length slots.old))) }
-    ensures records { (i : ℕ) (d : T) → i < room (length slots.old) → slice_index_or slots.new i d ≡ linked (slice_index_or slots.old i d) (after (room (length slots.old)) i) }
+    ensures chain { Chain (map T.link slots.new) result (slots_from 1 (room (length slots.old))) }
+    ensures records { (i : ℕ) (d : T) → i < room (length slots.old) → slice_index_or slots.new i d ≡ T.linked (slice_index_or slots.old i d) (after (room (length slots.old)) i) }
     ensures beyond { Beyond slots.old slots.new }
 {
     let last = last_slot(slots);
@@ -32,7 +32,7 @@ pub fn make<T: Link>(slots: &mut [T]) -> u16
 
 /// The link of a slot's record; none where the number is no slot.
 pub fn next_of<T: Link>(slots: &[T], slot: u16) -> Option<u16>
-    ensures { MatchOption result (Slot (length slots.now) slot → ⊥) (λ next. Slot (length slots.now) slot × (next ≡ link_at (map link slots.now) slot)) }
+    ensures { MatchOption result (Slot (length slots.now) slot → ⊥) (λ next. Slot (length slots.now) slot × (next ≡ link_at (map T.link slots.now) slot)) }
 {
     if slot == 0 || slot > last_slot(slots) {
         return None;
@@ -43,8 +43,8 @@ pub fn next_of<T: Link>(slots: &[T], slot: u16) -> Option<u16>
 /// Takes the first slot off the chain that begins at `head`; none comes from an empty chain. The record itself stays as it
 /// is, its link too.
 pub fn draw<T: Link>(slots: &[T], head: &mut u16) -> Option<u16>
-    ensures answer { MatchOption result ((Slot (length slots.now) head.old → ⊥) × (head.new ≡ head.old)) (λ k. (k ≡ head.old) × Slot (length slots.now) k × (head.new ≡ link_at (map link slots.now) k)) }
-    ensures chain { (ks : List ℕ) → Chain (map link slots.now) head.old ks → Drawn (map link slots.now) ks result head.new }
+    ensures answer { MatchOption result ((Slot (length slots.now) head.old → ⊥) × (head.new ≡ head.old)) (λ k. (k ≡ head.old) × Slot (length slots.now) k × (head.new ≡ link_at (map T.link slots.now) k)) }
+    ensures chain { (ks : List ℕ) → Chain (map T.link slots.now) head.old ks → Drawn (map T.link slots.now) ks result head.new }
 {
     let first = *head;
     let Some(rest) = next_of(slots, first) else {
@@ -57,7 +57,7 @@ pub fn draw<T: Link>(slots: &[T], head: &mut u16) -> Option<u16>
 /// Leads a slot's record to `next`, and leaves every other record as it was.
 pub fn link_to<T: Link>(slots: &mut [T], slot: u16, next: u16)
     requires inside { Slot (length slots.old) slot }
-    ensures records { (d : T) → slots.new ≡ relinked linked slots.old slot next d }
+    ensures records { (d : T) → slots.new ≡ relinked T.linked slots.old slot next d }
 {
     slots[slot as usize - 1].set_next(next);
 }
@@ -66,10 +66,10 @@ pub fn link_to<T: Link>(slots: &mut [T], slot: u16, next: u16)
 /// twice, it would lead to itself, and all behind it would be lost. So whoever gives back owes that fact.
 pub fn give_back<T: Link>(slots: &mut [T], head: &mut u16, slot: u16)
     requires inside { Slot (length slots.old) slot }
-    requires off { Off (map link slots.old) head.old slot }
+    requires off { Off (map T.link slots.old) head.old slot }
     ensures head { head.new ≡ slot }
-    ensures chain { (ks : List ℕ) → Chain (map link slots.old) head.old ks → Chain (map link slots.new) slot (slot ∷ ks) }
-    ensures records { (d : T) → slots.new ≡ relinked linked slots.old slot head.old d }
+    ensures chain { (ks : List ℕ) → Chain (map T.link slots.old) head.old ks → Chain (map T.link slots.new) slot (slot ∷ ks) }
+    ensures records { (d : T) → slots.new ≡ relinked T.linked slots.old slot head.old d }
 {
     link_to(slots, slot, *head);
     *head = slot;
@@ -77,7 +77,7 @@ pub fn give_back<T: Link>(slots: &mut [T], head: &mut u16, slot: u16)
 
 /// How many slots the chain that begins at `head` has.
 pub fn count<T: Link>(slots: &[T], head: u16) -> u16
-    ensures { (ks : List ℕ) → Chain (map link slots.now) head ks → result ≡ length ks }
+    ensures { (ks : List ℕ) → Chain (map T.link slots.now) head ks → result ≡ length ks }
 {
     let last = last_slot(slots);
     let mut at = head;

@@ -1,5 +1,7 @@
 // Chains of records, written once for every record that has a link: the records are a slice that the caller lends, their
 // slots count from 1, and 0 ends every chain.
+#![tactic(auto)]
+
 mod bound;
 mod free;
 

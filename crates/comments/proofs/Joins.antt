@@ -1,13 +1,12 @@
 -- The moves one after the other, and what they keep: lists that are joined stay whole, and a number that stood in one place
 -- stands in one place again.
-use Rattle.std.proofs.Common.{◌≡◌, ℕ, ◌+◌, Bool, true, false, cond, eqb, ◌⊎◌, List, [], ◌∷◌, ◌++◌, sym, refl, ap, ◌∙◌, subst, inl, inr, ⊎_elim, append-nil, arith}
+use Rattle.std.proofs.Common.{◌≡◌, ℕ, ◌+◌, Bool, true, false, cond, eqb, List, [], ◌∷◌, ◌++◌, sym, refl, ap, ◌∙◌, ⊎_elim, append-nil, arith}
 use mathlib.Core.Path.{fun_ext}
 use Rattle.std.specs.List.{flat_map}
-use Rattle.std.proofs.lemmas.Bool.{eqb-true, eqb-false, eq-eqb, ne_eqb, cond-true, cond-false, cases_eq}
+use Rattle.std.proofs.lemmas.Bool.{eq-eqb, ne_eqb, cond-true, cond-false, cases_eq}
 use Rattle.std.proofs.lemmas.List.{append_assoc}
 use Rattle.chain.specs.Chain.{times}
 use Rattle.chain.proofs.Counting.{times_append, is_same, is_unlike}
-use Rattle.comments.specs.declared.place.Place.{Place}
 use Rattle.comments.specs.declared.place.Move.{Move}
 use Rattle.comments.specs.declared.store.Side.{Side}
 use Rattle.comments.specs.declared.store.Side.TheVariants.{Leading, Trailing}

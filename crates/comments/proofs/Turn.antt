@@ -1,7 +1,6 @@
 -- One turn of a carry.
-use Rattle.std.proofs.Common.{◌≡◌, ℕ, ◌+◌, List, [], ◌∷◌, ◌++◌, take, sym, refl, ap, ◌∙◌}
+use Rattle.std.proofs.Common.{◌≡◌, ℕ, ◌+◌, List, [], ◌∷◌, ◌++◌, take, sym, ap, ◌∙◌}
 use mathlib.Core.Path.{fun_ext}
-use Rattle.comments.specs.declared.place.Place.{Place}
 use Rattle.comments.specs.declared.place.Move.{Move}
 use Rattle.comments.specs.declared.store.Side.{Side}
 use Rattle.comments.specs.declared.store.Side.TheVariants.{Leading, Trailing}

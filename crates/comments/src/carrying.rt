@@ -10,10 +10,10 @@ use crate::store::Store;
 /// Makes the moves in their order: of each, the leading list goes from `from.lo` to `to.lo` and the trailing list from
 /// `from.hi` to `to.hi`.
 pub fn carry<S: Store>(store: &mut S, moves: &[Move])
-    ensures made { (side : Side) (k : ℕ) → lists store.new side k ≡ carried side (lists store.old side) moves.now k }
-    ensures vacant { vacant store.new ≡ vacant store.old }
-    ensures gathered { (side : Side) → Gathered (lists store.old side) (lists store.new side) }
-    ensures once { (side : Side) (c : ℕ) → Once c (lists store.old side) → Once c (lists store.new side) }
+    ensures made { (side : Side) (k : ℕ) → S.lists store.new side k ≡ carried side (S.lists store.old side) moves.now k }
+    ensures vacant { S.vacant store.new ≡ S.vacant store.old }
+    ensures gathered { (side : Side) → Gathered (S.lists store.old side) (S.lists store.new side) }
+    ensures once { (side : Side) (c : ℕ) → Once c (S.lists store.old side) → Once c (S.lists store.new side) }
 {
     for m in moves {
         store.move_leading(m.from.lo, m.to.lo);

@@ -1,4 +1,6 @@
 // Comments at offsets of a text: what a store of comments means, and how comments are carried from place to place.
+#![tactic(auto)]
+
 mod agree;
 mod carrying;
 mod place;

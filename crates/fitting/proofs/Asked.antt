@@ -1,6 +1,6 @@
 -- What a form asks of its children is what its layout does.
 use mathlib.Core.Path.{◌≡◌, refl, sym, ◌∙◌, ap}
-use mathlib.Core.Bool.{Bool, true, false, cond, ◌&&◌, ◌||◌}
+use mathlib.Core.Bool.{Bool, true, false, cond, ◌&&◌}
 use mathlib.Core.List.{List, [], ◌∷◌}
 use mathlib.Core.Logic.{◌⊎◌, inl, inr}
 use lib.Dec.{leb}
@@ -24,12 +24,11 @@ use Rattle.kinds.specs.declared.operator.UpdateOperator.{UpdateOperator}
 use Rattle.kinds.specs.declared.operator.Side.{Side}
 use Rattle.kinds.specs.declared.operator.Side.TheVariants as side
 use Rattle.kinds.specs.declared.level.Slot.TheVariants as slot
-use Rattle.grammar.specs.Codes.{open_paren, close_paren, close_bracket, close_brace, comma, equals, arrow}
+use Rattle.grammar.specs.Codes.{open_paren, close_paren, close_bracket, close_brace, equals, arrow}
 use Rattle.grammar.specs.Site.{Attr, Site, at, stmt, body, block_only, prop, plain_name, valued_name, is_sort, valued, ok}
 use Rattle.grammar.specs.Layout.{Lay, end, stop, tok, kid, child, layout, fit_kids, commas, listed, run, names, var_of, rest, but_last}
-use Rattle.fitting.specs.Summary.{number, last, every, named, next, declared}
+use Rattle.fitting.specs.Summary.{number, last, every, declared}
 use Rattle.fitting.specs.Sites.{fit_sites, none, heads, ends, is_complete, asks}
-use Rattle.fitting.specs.declared.summary.Declared.{Declared}
 use Rattle.fitting.specs.declared.summary.Declared.TheVariants.{Nothing, Complete, Unvalued, Wrong}
 use Rattle.fitting.proofs.Summaries.{and_assoc, and_true}
 

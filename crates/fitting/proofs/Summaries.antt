@@ -1,6 +1,6 @@
 -- How a summary goes on with one more child.
 use Prim.Native.Nat.{ℕ}
-use mathlib.Core.Path.{◌≡◌, refl, sym, ◌∙◌, ap, subst}
+use mathlib.Core.Path.{◌≡◌, refl, sym, ◌∙◌, ap}
 use mathlib.Core.Bool.{Bool, true, false, cond, ◌&&◌, ◌||◌}
 use mathlib.Core.List.{List, [], ◌∷◌, ◌++◌}
 use lib.Dec.{eqb}
@@ -8,7 +8,6 @@ use Rattle.kinds.specs.declared.level.Slot.TheVariants as slot
 use Rattle.grammar.specs.Site.{Attr, Site, at, stmt, prop, plain_name, is_sort, property, is_statement, ok}
 use Rattle.grammar.specs.Layout.{rest, but_last}
 use Rattle.fitting.specs.Traits.{traits_of}
-use Rattle.fitting.specs.Summary as sum
 use Rattle.fitting.specs.Summary.{number, more, first, second, third, fourth, last, every, any_bare, next, declared, Sums}
 use Rattle.fitting.specs.declared.summary.Declared.{Declared}
 use Rattle.fitting.specs.declared.summary.Declared.TheVariants.{Nothing}

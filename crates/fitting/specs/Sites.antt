@@ -6,7 +6,7 @@
 --   asks f cs             children with the attributes cs are those that the form f asks for
 --
 -- Assumes nothing.
-use Rattle.std.specs.Prelude.{ℕ, Bool, true, false, cond, ◌&&◌, ◌||◌, List, [], ◌∷◌, eqb, leb}
+use Rattle.std.specs.Prelude.{Bool, true, false, cond, ◌&&◌, ◌||◌, List, [], ◌∷◌, eqb, leb}
 use Rattle.kinds.specs.Levels.{left_slot, right_slot}
 use Rattle.kinds.specs.declared.form.Form.{Form}
 use Rattle.kinds.specs.declared.form.Form.TheVariants as form
@@ -21,8 +21,8 @@ use Rattle.kinds.specs.declared.form.Link.TheVariants as link
 use Rattle.kinds.specs.declared.form.Entry.{Entry}
 use Rattle.kinds.specs.declared.form.Entry.TheVariants as entry
 use Rattle.kinds.specs.declared.level.Slot.TheVariants as slot
-use Rattle.grammar.specs.Site.{Attr, Site, at, start, body, block_only, stmt, closed, init, prop, plain_name, key_name, ok}
-use Rattle.grammar.specs.Layout.{rest, but_last, init_site, left_site}
+use Rattle.grammar.specs.Site.{Attr, Site, at, start, body, block_only, stmt, closed, prop, plain_name, key_name, ok}
+use Rattle.grammar.specs.Layout.{but_last, init_site, left_site}
 use Rattle.fitting.specs.Summary.{number, last, every, declared}
 use Rattle.fitting.specs.declared.summary.Declared.{Declared}
 use Rattle.fitting.specs.declared.summary.Declared.TheVariants.{Nothing, Complete, Unvalued, Wrong}

@@ -1,5 +1,7 @@
 // What a tree is, as far as the place where it stands can ask, and whether the children of a record may stand where they stand.
 
+#![tactic(auto)]
+
 mod derived;
 mod fits;
 mod site;

@@ -6,14 +6,12 @@ use mathlib.Core.Option.{Option, none, some, none-ne-some}
 use Prim.Native.Nat.{ℕ, zero, suc}
 use Rattle.token.specs.Same.{same_code}
 use Rattle.token.specs.declared.Token.{Token}
-use Rattle.token.specs.declared.word.Word.{Word}
 use Rattle.kinds.specs.declared.operator.UnaryOperator.TheVariants as unary
 use Rattle.kinds.specs.declared.operator.UpdateOperator.TheVariants as update
 use Rattle.kinds.specs.declared.operator.BinaryOperator.TheVariants as binary
 use Rattle.kinds.specs.declared.form.Constant.TheVariants as constant
 use Rattle.kinds.specs.declared.form.Form.{Form}
 use Rattle.kinds.specs.declared.form.Form.TheVariants as form
-use Rattle.kinds.specs.declared.form.Key.{Key}
 use Rattle.kinds.specs.declared.form.Key.TheVariants as key
 use Rattle.kinds.specs.declared.form.Own.TheVariants as own
 use Rattle.kinds.specs.declared.form.Arguments.TheVariants as arguments

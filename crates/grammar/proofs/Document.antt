@@ -11,7 +11,7 @@ use Rattle.kinds.specs.declared.form.Key.TheVariants as key
 use Rattle.kinds.specs.declared.level.Slot.{Slot}
 use Rattle.kinds.specs.declared.level.Slot.TheVariants as slot
 use Rattle.grammar.specs.Codes.{open_paren, close_paren, open_bracket, close_bracket, dot, equals}
-use Rattle.grammar.specs.Site.{ok, is_expression, Sort, declaration, property, script, sort_rank, Attr, is_sort, valued, at, init, var_init, var_in, plain_name, valued_name}
+use Rattle.grammar.specs.Site.{ok, is_expression, Sort, declaration, sort_rank, Attr, is_sort, valued, at, init, var_init, var_in, plain_name, valued_name}
 use Rattle.grammar.specs.Tree.{head, head_of, Tree, Forest, node, nil, ◌▸◌}
 use Rattle.grammar.specs.Layout.{tok, names, var_of, kid, first_standing, attr, attrs, attr_of}
 use Rattle.grammar.specs.Derives.{token, lo_of, Derives, Follows, derive, d_end, d_stop, d_tok, d_kid}

@@ -5,7 +5,6 @@ use mathlib.Core.Bool.{Bool, true, false, not, ◌&&◌, ◌||◌}
 use Prim.Native.Nat.{ℕ}
 use lib.Dec.{T, eqb}
 use Rattle.token.specs.declared.Token.{Token}
-use Rattle.token.specs.declared.word.Word.{Word}
 use Rattle.kinds.specs.declared.form.Form.{Form}
 use Rattle.kinds.specs.declared.form.Form.TheVariants as form
 use Rattle.kinds.specs.declared.form.Binding.TheVariants as binding
@@ -13,7 +12,7 @@ use Rattle.grammar.specs.Site.{Sort, block, declaration, script, nothing, sort_r
 use Rattle.grammar.specs.Tree.{head, Forest, node}
 use Rattle.grammar.specs.Layout.{layout, attr_of, attr, attrs}
 use Rattle.grammar.specs.Derives.{lo_of}
-use Rattle.grammar.specs.Parser.{Goal, ex, stm, blk, dec, prp, nam, scr, shut}
+use Rattle.grammar.specs.Parser.{Goal, ex, stm, blk, dec, prp, nam, scr}
 use Rattle.grammar.proofs.Tests.{and_l}
 use Rattle.grammar.proofs.Fills.{Fills}
 use Rattle.grammar.proofs.Steps.{Claim, Through, To, goes, ok_after}

@@ -8,14 +8,12 @@ use lib.Dec.{T}
 use lib.ListN.{length}
 use Rattle.token.specs.Same.{same_code}
 use Rattle.token.specs.declared.Token.{Token}
-use Rattle.token.specs.declared.word.Word.{Word}
 use Rattle.kinds.specs.declared.operator.UnaryOperator.TheVariants as unary
 use Rattle.kinds.specs.declared.operator.UpdateOperator.TheVariants as update
 use Rattle.kinds.specs.declared.form.Constant.TheVariants as constant
 use Rattle.kinds.specs.declared.form.Form.{Form}
 use Rattle.kinds.specs.declared.form.Form.TheVariants as form
 use Rattle.kinds.specs.declared.form.Binding.TheVariants as binding
-use Rattle.kinds.specs.declared.form.Key.{Key}
 use Rattle.kinds.specs.declared.form.Key.TheVariants as key
 use Rattle.kinds.specs.declared.form.Link.TheVariants as link
 use Rattle.kinds.specs.declared.form.Entry.TheVariants as entry

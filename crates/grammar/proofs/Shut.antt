@@ -5,12 +5,10 @@ use mathlib.Core.Bool.{Bool, true, false, cond, not, ◌||◌}
 use Prim.Native.Nat.{ℕ}
 use lib.Dec.{T, leb}
 use Rattle.token.specs.declared.Token.{Token}
-use Rattle.token.specs.declared.word.Word.{Word}
 use Rattle.kinds.specs.declared.operator.BinaryOperator.TheVariants as binary
 use Rattle.kinds.specs.declared.form.Form.{Form}
 use Rattle.kinds.specs.declared.form.Form.TheVariants as form
 use Rattle.kinds.specs.declared.form.Binding.TheVariants as binding
-use Rattle.kinds.specs.declared.form.Key.{Key}
 use Rattle.kinds.specs.declared.form.Key.TheVariants as key
 use Rattle.kinds.specs.declared.form.Own.TheVariants as own
 use Rattle.kinds.specs.declared.form.Arguments.TheVariants as arguments

@@ -7,13 +7,9 @@ use lib.Dec.{T, eqb}
 use Rattle.token.specs.declared.Token.{Token}
 use Rattle.token.specs.declared.Code.{Code}
 use Rattle.token.specs.declared.Code.TheVariants as code
-use Rattle.token.specs.declared.word.Word.{Word}
 use Rattle.token.specs.declared.word.Word.TheVariants as word
-use Rattle.token.specs.declared.punctuator.Punctuator.{Punctuator}
 use Rattle.token.specs.declared.punctuator.Punctuator.TheVariants as punctuator
-use Rattle.token.specs.declared.operator.Operator.{Operator}
 use Rattle.token.specs.declared.operator.Operator.TheVariants as operator
-use Rattle.token.specs.declared.operator.AssignOperator.{AssignOperator}
 use Rattle.kinds.specs.declared.form.Constant.{Constant}
 use Rattle.kinds.specs.declared.form.Constant.TheVariants as constant
 use Rattle.kinds.specs.declared.form.Form.{Form}

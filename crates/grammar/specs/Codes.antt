@@ -3,13 +3,9 @@
 -- Assumes nothing.
 use Rattle.token.specs.declared.Code.{Code}
 use Rattle.token.specs.declared.Code.TheVariants as code
-use Rattle.token.specs.declared.word.Word.{Word}
 use Rattle.token.specs.declared.word.Word.TheVariants as word
-use Rattle.token.specs.declared.punctuator.Punctuator.{Punctuator}
 use Rattle.token.specs.declared.punctuator.Punctuator.TheVariants as punctuator
-use Rattle.token.specs.declared.operator.Operator.{Operator}
 use Rattle.token.specs.declared.operator.Operator.TheVariants as operator
-use Rattle.token.specs.declared.operator.AssignOperator.{AssignOperator}
 use Rattle.token.specs.declared.operator.AssignOperator.TheVariants as assign
 use Rattle.kinds.specs.declared.operator.UnaryOperator.{UnaryOperator}
 use Rattle.kinds.specs.declared.operator.UnaryOperator.TheVariants as unary

@@ -10,11 +10,8 @@ use Rattle.std.proofs.Math.Option.{Option, none, some}
 use Rattle.token.specs.declared.Token.{Token}
 use Rattle.token.specs.declared.Code.{Code}
 use Rattle.token.specs.declared.Code.TheVariants as code
-use Rattle.token.specs.declared.word.Word.{Word}
 use Rattle.token.specs.declared.word.Word.TheVariants as word
-use Rattle.token.specs.declared.operator.Operator.{Operator}
 use Rattle.token.specs.declared.operator.Operator.TheVariants as operator
-use Rattle.token.specs.declared.operator.AssignOperator.{AssignOperator}
 use Rattle.token.specs.declared.operator.AssignOperator.TheVariants as assign
 use Rattle.kinds.specs.declared.operator.UnaryOperator.TheVariants as unary
 use Rattle.kinds.specs.declared.operator.BinaryOperator.TheVariants as binary
@@ -22,7 +19,6 @@ use Rattle.kinds.specs.declared.form.Constant.TheVariants as constant
 use Rattle.kinds.specs.declared.form.Form.{Form}
 use Rattle.kinds.specs.declared.form.Form.TheVariants as form
 use Rattle.kinds.specs.declared.form.Binding.TheVariants as binding
-use Rattle.kinds.specs.declared.form.Key.{Key}
 use Rattle.kinds.specs.declared.form.Key.TheVariants as key
 use Rattle.kinds.specs.declared.form.Own.TheVariants as own
 use Rattle.kinds.specs.declared.form.Arguments.TheVariants as arguments

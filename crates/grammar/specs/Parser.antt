@@ -31,7 +31,6 @@ use Rattle.kinds.specs.declared.form.Constant.TheVariants as constant
 use Rattle.kinds.specs.declared.form.Form.{Form}
 use Rattle.kinds.specs.declared.form.Form.TheVariants as form
 use Rattle.kinds.specs.declared.form.Binding.TheVariants as binding
-use Rattle.kinds.specs.declared.form.Key.{Key}
 use Rattle.kinds.specs.declared.form.Key.TheVariants as key
 use Rattle.kinds.specs.declared.form.Own.TheVariants as own
 use Rattle.kinds.specs.declared.form.Arguments.TheVariants as arguments

@@ -6,7 +6,6 @@
 use Rattle.std.specs.Prelude.{ℕ, true, false, List, [], ◌∷◌}
 use Rattle.token.specs.declared.Token.{Token}
 use Rattle.token.specs.declared.Code.TheVariants as code
-use Rattle.token.specs.declared.word.Word.{Word}
 use Rattle.token.specs.declared.operator.AssignOperator.{AssignOperator}
 use Rattle.kinds.specs.declared.operator.UnaryOperator.TheVariants as unary
 use Rattle.kinds.specs.declared.operator.UpdateOperator.TheVariants as update
@@ -14,7 +13,6 @@ use Rattle.kinds.specs.declared.operator.BinaryOperator.TheVariants as binary
 use Rattle.kinds.specs.declared.form.Constant.TheVariants as constant
 use Rattle.kinds.specs.declared.form.Form.TheVariants as form
 use Rattle.kinds.specs.declared.form.Binding.TheVariants as binding
-use Rattle.kinds.specs.declared.form.Key.{Key}
 use Rattle.kinds.specs.declared.form.Key.TheVariants as key
 use Rattle.kinds.specs.declared.form.Own.TheVariants as own
 use Rattle.kinds.specs.declared.form.Arguments.TheVariants as arguments
@@ -23,7 +21,7 @@ use Rattle.kinds.specs.declared.form.Entry.TheVariants as entry
 use Rattle.kinds.specs.declared.operator.Side.TheVariants as side
 use Rattle.kinds.specs.declared.level.Slot.TheVariants as slot
 use Rattle.grammar.specs.Codes.{open_paren, close_paren, open_bracket, close_bracket, open_brace, close_brace, semicolon, comma, dot, colon, question, question_dot, arrow, equals, word_this, word_function, word_in, word_new, word_await, word_yield, word_var, word_return, word_if, word_else, word_while, word_for, constant_code, unary_code, update_code, binary_code}
-use Rattle.grammar.specs.Site.{property, script, at, start, body, block_only, stmt, closed, init, var_init, var_in, prop, plain_name, valued_name, key_name, root}
+use Rattle.grammar.specs.Site.{at, start, body, block_only, stmt, closed, init, var_init, var_in, prop, plain_name, valued_name, key_name, root}
 use Rattle.grammar.specs.Tree.{head, head_of, Tree, Forest, node, nil, ◌▸◌}
 use Rattle.grammar.specs.Layout.{Lay, end, tok, child, inside, commas, listed, run, but_last, arguments_of, parameters, names, fn_of, var_of, init_site, left_site, layout, attr, attrs}
 use Rattle.grammar.specs.Derives.{token, lo_of, Derives, Follows}

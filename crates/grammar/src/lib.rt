@@ -1,5 +1,7 @@
 // The grammar of rules, and that no token list has two readings. The definitions stand in `specs`; each function here carries one law.
 
+#![tactic(auto)]
+
 ghost use Rattle.grammar.specs.Rewriting.{CoreLaw, GoodFull, StepsShrink};
 ghost use Rattle.grammar.specs.Productions.{Units, Productions, Lists};
 ghost use Rattle.grammar.specs.Contexts.{Lookaheads, BeforeElse, WithoutIn};

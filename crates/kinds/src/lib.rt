@@ -1,5 +1,7 @@
 // The vocabulary of trees: the kinds of record, the operators, the forms, and what may stand bare in which slot.
 
+#![tactic(auto)]
+
 pub mod form;
 pub mod kind;
 pub mod level;

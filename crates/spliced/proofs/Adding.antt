@@ -1,10 +1,9 @@
 -- What putting one comment leaves: the records lie well again, and one list has one comment more.
-use Rattle.std.proofs.Common.{◌≡◌, ℕ, zero, suc, ◌+◌, ◌-◌, ◌<◌, ◌≤◌, true, List, [], ◌∷◌, ◌++◌, map, length, get_or, set, Some, None, Option, sym, refl, ap, ◌∙◌, subst, arith, length-set}
+use Rattle.std.proofs.Common.{◌≡◌, ℕ, ◌+◌, ◌-◌, ◌<◌, true, List, [], ◌∷◌, ◌++◌, map, length, get_or, set, Some, None, Option, sym, refl, ap, ◌∙◌, subst, arith, length-set}
 use Rattle.std.proofs.lemmas.List.{length-map, map-append}
-use Rattle.std.proofs.lemmas.Bool.{both_ways}
 use Rattle.comments.specs.declared.store.Side.{Side}
-use Rattle.comments.specs.Lists.{Lists, added}
-use Rattle.chain.specs.Chain.{room, Slot, link_at, Chain, is, times, relinked}
+use Rattle.comments.specs.Lists.{added}
+use Rattle.chain.specs.Chain.{room, Slot, link_at, times, relinked}
 use Rattle.chain.proofs.Counting.{is_same}
 use Rattle.chain.proofs.Laws.{chain_slot, link_at_set, link_at_other}
 use Rattle.spliced.specs.declared.notes.Note.{Note}
@@ -15,10 +14,10 @@ use Rattle.spliced.specs.Heads.{head_links, blank, list_at, with_list, key, list
 use Rattle.spliced.specs.Layout.{Fit, used, Layout, Laid}
 use Rattle.spliced.proofs.Sums.{one_of}
 use Rattle.spliced.proofs.Steps.{Holding, took, extended, opened}
-use Rattle.spliced.proofs.Meaning.{Means, means, key_own, key_parts, map_alike}
+use Rattle.spliced.proofs.Meaning.{Means, means, key_own, map_alike}
 use Rattle.spliced.proofs.Changes.{grown_lists}
 use Rattle.spliced.proofs.Records.{links_joined, comments_joined, links_written, comments_written, head_links_held, holding}
-use Rattle.spliced.proofs.Whole.{At, Nowhere, rooms, below, fit_at}
+use Rattle.spliced.proofs.Whole.{At, Nowhere, rooms, below}
 use Rattle.spliced.proofs.Calls.{moved_layout, fresh_by}
 
 -- the notes of a list are slots

@@ -1,5 +1,5 @@
 -- The answers to questions, by the layout of the records.
-use Rattle.std.proofs.Common.{◌≡◌, ℕ, ◌-◌, ◌<◌, ◌≤◌, List, [], ◌∷◌, map, length, get_or, Some, None, Option, sym, refl, ap, ◌∙◌, subst, arith}
+use Rattle.std.proofs.Common.{◌≡◌, ℕ, ◌-◌, List, [], map, length, get_or, Some, None, Option, sym, refl, ap, ◌∙◌, arith}
 use mathlib.Core.HLevel.{hedberg}
 use mathlib.Core.Logic.{∥∥₁_elim}
 use mathlib.Core.List.{is_set}
@@ -8,13 +8,13 @@ use Rattle.std.specs.List.{slice_get}
 use Rattle.std.specs.Option.{option_to_list}
 use Rattle.std.proofs.lemmas.List.{length-map}
 use Rattle.comments.specs.declared.store.Side.{Side}
-use Rattle.chain.specs.Chain.{room, Chain}
+use Rattle.chain.specs.Chain.{Chain}
 use Rattle.spliced.specs.declared.notes.Note.{Note}
 use Rattle.spliced.specs.declared.heads.NoteList.{NoteList}
 use Rattle.spliced.specs.declared.heads.Head.{Head}
 use Rattle.spliced.specs.Notes.{links, comments, comment_at}
-use Rattle.spliced.specs.Heads.{list_at, key, listed}
-use Rattle.spliced.specs.Layout.{Fit, Laid}
+use Rattle.spliced.specs.Heads.{key, listed}
+use Rattle.spliced.specs.Layout.{Laid}
 use Rattle.spliced.proofs.Meaning.{means}
 use Rattle.spliced.proofs.Whole.{At, Nowhere, fit_at}
 

@@ -1,24 +1,21 @@
 -- What a whole call leaves: records that lie well again, and the lists that they mean then.
-use Rattle.std.proofs.Common.{◌≡◌, ℕ, zero, suc, ◌+◌, ◌-◌, ◌<◌, ◌≤◌, Bool, true, false, ◌≢◌, List, [], ◌∷◌, ◌++◌, map, length, get_or, set, Some, None, Option, sym, refl, ap, ◌∙◌, subst, arith, length-set}
-use Rattle.std.proofs.lemmas.List.{length-map, get_or-set_other, set_comm, map-append}
+use Rattle.std.proofs.Common.{◌≡◌, ℕ, ◌+◌, ◌-◌, ◌<◌, true, ◌≢◌, List, [], ◌∷◌, length, get_or, set, Some, None, Option, sym, refl, ap, ◌∙◌, subst, arith, length-set}
+use Rattle.std.proofs.lemmas.List.{get_or-set_other, set_comm}
 use Rattle.std.proofs.lemmas.Bool.{both_ways}
 use Rattle.comments.specs.declared.store.Side.{Side}
 use Rattle.comments.specs.declared.store.Side.TheVariants.{Leading, Trailing}
-use Rattle.comments.specs.Lists.{Lists, join, shifted, added}
-use Rattle.chain.specs.Chain.{room, Slot, link_at, Chain, is, times, relinked}
-use Rattle.chain.proofs.Counting.{is_same, is_cases}
-use Rattle.chain.proofs.Laws.{chain_slot, link_at_set, link_at_other}
+use Rattle.comments.specs.Lists.{join, shifted}
+use Rattle.chain.specs.Chain.{room, times, relinked}
 use Rattle.spliced.specs.declared.notes.Note.{Note}
 use Rattle.spliced.specs.declared.heads.NoteList.{NoteList}
 use Rattle.spliced.specs.declared.heads.Head.{Head}
-use Rattle.spliced.specs.Notes.{links, comments, comment_at, linked_note}
+use Rattle.spliced.specs.Notes.{links, comments, linked_note}
 use Rattle.spliced.specs.Heads.{head_links, blank, list_at, with_list, key, front_of, listed}
 use Rattle.spliced.specs.Layout.{Fit, used, Layout, Laid}
-use Rattle.spliced.proofs.Sums.{one_of}
-use Rattle.spliced.proofs.Steps.{Holding, took, detached, extended, opened, relabelled}
-use Rattle.spliced.proofs.Meaning.{Means, means, key_twice, key_own, map_alike}
-use Rattle.spliced.proofs.Changes.{joined_lists, relabelled_lists, grown_lists}
-use Rattle.spliced.proofs.Records.{links_joined, comments_joined, links_written, comments_written, head_links_held, head_links_released, holding}
+use Rattle.spliced.proofs.Steps.{Holding, detached, extended, relabelled}
+use Rattle.spliced.proofs.Meaning.{Means, means, key_twice, key_own}
+use Rattle.spliced.proofs.Changes.{joined_lists, relabelled_lists}
+use Rattle.spliced.proofs.Records.{links_joined, comments_joined, head_links_held, head_links_released, holding}
 use Rattle.spliced.proofs.Whole.{At, Nowhere, rooms, below, fit_at}
 
 -- the same layout, of equal links

@@ -1,9 +1,9 @@
 -- The layout of a new store: all records unused.
-use Rattle.std.proofs.Common.{◌≡◌, ℕ, zero, suc, ◌+◌, ◌-◌, ◌<◌, ◌≤◌, true, false, ◌⊎◌, List, [], ◌∷◌, length, get_or, replicate, Some, None, sum_by, Option, sym, refl, ap, ◌∙◌, subst, inl, inr, ⊎_elim, arith}
+use Rattle.std.proofs.Common.{◌≡◌, ℕ, zero, suc, ◌+◌, ◌<◌, ◌≤◌, true, false, List, [], length, get_or, replicate, None, sum_by, Option, sym, refl, ap, ◌∙◌, subst, ⊎_elim, arith}
 use Rattle.std.proofs.lemmas.List.{length-map, length-replicate, get_or-replicate}
 use Rattle.std.proofs.lemmas.List.Sums.{sum_by-cons}
 use Rattle.comments.specs.declared.store.Side.{Side}
-use Rattle.chain.specs.Chain.{room, Chain, is, times, slots_from}
+use Rattle.chain.specs.Chain.{room, Chain, times, slots_from}
 use Rattle.chain.proofs.Counting.{is_cases}
 use Rattle.chain.proofs.Laws.{chain_once}
 use Rattle.spliced.specs.declared.notes.Note.{Note}
@@ -11,7 +11,7 @@ use Rattle.spliced.specs.declared.heads.NoteList.{NoteList}
 use Rattle.spliced.specs.declared.heads.Head.{Head}
 use Rattle.spliced.specs.Notes.{links}
 use Rattle.spliced.specs.Heads.{head_links, list_at, key, listed}
-use Rattle.spliced.specs.Layout.{Fit, used, Layout, Laid}
+use Rattle.spliced.specs.Layout.{Fit, used, Laid}
 use Rattle.spliced.proofs.Meaning.{means}
 
 -- a run of slots has each of them once, and is as long as it says

@@ -1,13 +1,13 @@
 -- What the records mean, by their layout: the list of a side and an offset is that of the head which holds it.
-use Rattle.std.proofs.Common.{◌≡◌, ℕ, zero, suc, ◌+◌, ◌-◌, ◌<◌, ◌≤◌, Bool, true, false, cond, ◌&&◌, eqb, ◌≢◌, ◌⊎◌, List, [], ◌∷◌, ◌++◌, map, length, get_or, take, set, Some, None, Option, sym, refl, ap, ◌∙◌, subst, inl, inr, ⊎_elim, arith}
-use Rattle.std.proofs.lemmas.List.{length-map, length-take, get_or-take, map-append}
-use Rattle.std.proofs.lemmas.Bool.{cases_eq, cases_Bool, cond-true, cond-false, and_parts, eqb-true, eq-eqb, both_ways}
+use Rattle.std.proofs.Common.{◌≡◌, ℕ, zero, suc, ◌<◌, ◌≤◌, Bool, true, false, eqb, ◌⊎◌, List, [], ◌∷◌, map, length, get_or, take, Some, None, Option, sym, refl, ap, ◌∙◌, subst, inl, inr, ⊎_elim, arith}
+use Rattle.std.proofs.lemmas.List.{length-map, length-take, get_or-take}
+use Rattle.std.proofs.lemmas.Bool.{cases_eq, cases_Bool, cond-true, cond-false, and_parts, eqb-true, eq-eqb}
 use Rattle.comments.specs.declared.store.Side.{Side}
 use Rattle.comments.specs.Lists.{Lists, same}
 use Rattle.comments.proofs.Parts.{same_sides, same_self}
-use Rattle.chain.specs.Chain.{room, Slot, link_at, Chain, times}
+use Rattle.chain.specs.Chain.{room, link_at, Chain, times}
 use Rattle.chain.proofs.Counting.{is_same}
-use Rattle.chain.proofs.Laws.{chain_short, chain_slot}
+use Rattle.chain.proofs.Laws.{chain_short}
 use Rattle.spliced.specs.declared.notes.Note.{Note}
 use Rattle.spliced.specs.declared.heads.NoteList.{NoteList}
 use Rattle.spliced.specs.declared.heads.Head.{Head}

@@ -1,5 +1,5 @@
 -- Walks along the notes of a list.
-use Rattle.std.proofs.Common.{◌≡◌, ℕ, zero, suc, ◌+◌, ◌-◌, ◌<◌, List, [], ◌∷◌, map, length, Some, None, Option, sym, refl, ap, ◌∙◌, subst, add-zero, zero-add, arith, MatchOption}
+use Rattle.std.proofs.Common.{◌≡◌, ℕ, suc, ◌+◌, ◌-◌, ◌<◌, List, map, length, Some, None, Option, sym, ap, ◌∙◌, subst, add-zero, zero-add, arith, MatchOption}
 use Rattle.std.specs.List.{slice_get}
 use Rattle.chain.specs.Chain.{Slot, link_at, Chain}
 use Rattle.chain.proofs.Walks.{ended, led_on}

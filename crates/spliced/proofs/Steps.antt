@@ -1,16 +1,16 @@
 -- What each step of the store does to the layout of its records.
-use Rattle.std.proofs.Common.{◌≡◌, ℕ, zero, suc, ◌+◌, ◌-◌, ◌<◌, ◌≤◌, Bool, true, false, cond, ◌≢◌, ◌⊎◌, List, [], ◌∷◌, ◌++◌, length, get_or, set, Some, None, sum_by, Option, sym, refl, ap, ◌∙◌, subst, inl, inr, ⊎_elim, arith, length-set}
+use Rattle.std.proofs.Common.{◌≡◌, ℕ, ◌+◌, ◌-◌, ◌<◌, Bool, true, false, ◌≢◌, List, [], ◌∷◌, ◌++◌, length, get_or, set, Some, None, Option, sym, refl, ap, ◌∙◌, subst, ⊎_elim, arith, length-set}
 use Rattle.std.proofs.lemmas.List.Sums.{sum_by-set}
 use Rattle.std.proofs.lemmas.List.{get_or-set_same, get_or-set_other, length-append, append_assoc}
 use Rattle.std.proofs.lemmas.Bool.{cases_eq}
 use Rattle.comments.specs.declared.store.Side.{Side}
-use Rattle.chain.specs.Chain.{room, Slot, link_at, Chain, is, times}
+use Rattle.chain.specs.Chain.{room, Slot, link_at, Chain, times}
 use Rattle.chain.proofs.Counting.{is_same, is_unlike, times_append}
-use Rattle.chain.proofs.Laws.{chain_past, chain_push, chain_join, chain_once, chain_slot, chain_short}
+use Rattle.chain.proofs.Laws.{chain_past, chain_push, chain_join, chain_slot}
 use Rattle.spliced.specs.declared.heads.NoteList.{NoteList}
 use Rattle.spliced.specs.Heads.{key}
 use Rattle.spliced.specs.Layout.{Fit, used, Layout}
-use Rattle.spliced.proofs.Sums.{two_of, one_of, none_empty}
+use Rattle.spliced.proofs.Sums.{two_of, one_of}
 
 -- a list's last note is on it, and is a slot
 pub last_on : (m : List ℕ) (l : NoteList) (ks : List ℕ) → Fit m (Some l) ks → 0 < times l.last ks

@@ -1,6 +1,5 @@
 -- The steps of a call put together, over plain values.
-use Rattle.std.proofs.Common.{◌≡◌, ℕ, ◌+◌, ◌-◌, ◌<◌, ◌≤◌, min, List, [], ◌∷◌, length, get_or, set, Some, None, Option, sym, refl, ap, ◌∙◌, subst, arith, length-set}
-use Rattle.std.proofs.lemmas.List.{length-map}
+use Rattle.std.proofs.Common.{◌≡◌, ℕ, ◌+◌, ◌-◌, ◌<◌, min, List, [], ◌∷◌, length, get_or, set, Some, None, Option, sym, refl, ap, ◌∙◌, subst, arith, length-set}
 use Rattle.comments.specs.declared.store.Side.{Side}
 use Rattle.comments.specs.declared.store.Side.TheVariants.{Leading, Trailing}
 use Rattle.comments.specs.Lists.{shifted, added}
@@ -10,7 +9,7 @@ use Rattle.spliced.specs.declared.notes.Note.{Note}
 use Rattle.spliced.specs.declared.heads.NoteList.{NoteList}
 use Rattle.spliced.specs.declared.heads.Head.{Head}
 use Rattle.spliced.specs.Notes.{links, linked_note}
-use Rattle.spliced.specs.Heads.{head_links, blank, list_at, with_list, key, front_of, listed}
+use Rattle.spliced.specs.Heads.{head_links, blank, list_at, with_list, front_of, listed}
 use Rattle.spliced.specs.Layout.{Layout, Laid}
 use Rattle.spliced.proofs.Records.{head_links_held}
 use Rattle.spliced.proofs.Whole.{At, Nowhere, slot_from, none_from, last_note, not_unused, free_note, free_head}

@@ -1,27 +1,19 @@
 -- A whole call on the records of a store: that they lie well again, and what they mean then.
-use Rattle.std.proofs.Common.{◌≡◌, ℕ, zero, suc, ◌+◌, ◌-◌, ◌<◌, ◌≤◌, Bool, true, false, cond, ◌&&◌, List, [], ◌∷◌, ◌++◌, map, length, get_or, set, Some, None, sum_by, Option, sym, refl, ap, ◌∙◌, subst, arith, length-set}
+use Rattle.std.proofs.Common.{◌≡◌, ℕ, ◌+◌, ◌-◌, ◌<◌, ◌≤◌, true, false, List, [], ◌∷◌, length, get_or, Some, None, Option, sym, ap, subst, arith}
 use mathlib.Core.Logic.{∥∥₁_elim}
 use native.Mathlib.Bridge.{le_prop}
-use Rattle.std.proofs.lemmas.List.{length-map, get_or-set_same, get_or-set_other, set_comm, map-append}
-use Rattle.std.proofs.lemmas.Bool.{both_ways}
+use Rattle.std.proofs.lemmas.List.{length-map}
 use Rattle.comments.specs.declared.store.Side.{Side}
-use Rattle.comments.specs.declared.store.Side.TheVariants.{Leading, Trailing}
-use Rattle.comments.specs.Lists.{Lists, join, shifted, added}
-use Rattle.comments.proofs.Parts.{shifted_equal, shifted_empty}
-use Rattle.chain.specs.Chain.{room, Slot, link_at, Chain, is, times, relinked}
-use Rattle.chain.proofs.Counting.{is_same, times_append}
-use Rattle.chain.proofs.Laws.{chain_slot, chain_unique, link_at_set, link_at_other}
+use Rattle.chain.specs.Chain.{room, Slot, Chain, times}
+use Rattle.chain.proofs.Laws.{chain_unique}
 use Rattle.spliced.specs.declared.notes.Note.{Note}
 use Rattle.spliced.specs.declared.heads.NoteList.{NoteList}
 use Rattle.spliced.specs.declared.heads.Head.{Head}
-use Rattle.spliced.specs.Notes.{links, comments, comment_at, linked_note}
-use Rattle.spliced.specs.Heads.{head_links, blank, list_at, with_list, key, front_of, listed}
-use Rattle.spliced.specs.Layout.{Fit, used, Layout, Laid}
-use Rattle.spliced.proofs.Sums.{one_of, none_empty}
-use Rattle.spliced.proofs.Steps.{Holding, last_slot, fit_long, took, detached, extended, opened, relabelled}
-use Rattle.spliced.proofs.Meaning.{Means, means, key_twice, key_own, map_alike}
-use Rattle.spliced.proofs.Changes.{joined_lists, relabelled_lists, grown_lists}
-use Rattle.spliced.proofs.Records.{links_joined, comments_joined, links_written, comments_written, head_links_held, head_links_released, holding}
+use Rattle.spliced.specs.Notes.{links}
+use Rattle.spliced.specs.Heads.{head_links, list_at, key}
+use Rattle.spliced.specs.Layout.{Fit, used, Laid}
+use Rattle.spliced.proofs.Sums.{none_empty}
+use Rattle.spliced.proofs.Steps.{last_slot, fit_long}
 
 -- what follows of a layout follows where there is one
 pub slot_from : {P : Type 0} (n k : ℕ) → ∥ P ∥₁ → (P → Slot n k) → Slot n k

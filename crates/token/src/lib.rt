@@ -1,5 +1,7 @@
 // A token: what it is and where it stands in the source text.
 
+#![tactic(auto)]
+
 pub mod operator;
 pub mod punctuator;
 pub mod word;

@@ -1,4 +1,4 @@
-use Rattle.std.proofs.Common.{◌≡◌, ℕ, ◌+◌, map, sym, subst, arith}
+use Rattle.std.proofs.Common.{ℕ, ◌+◌, map, sym, subst, arith}
 use Rattle.std.proofs.lemmas.List.{length-map}
 use Rattle.chain.proofs.Records.{slot_links, slot_records}
 use Rattle.chain.proofs.Walks.{Walked, walked_none, walked_more, walked_off, walked_all}
@@ -7,11 +7,11 @@ use Rattle.chain.proofs.free.count.Goals as goal
 pub loop-steps-init : goal.loop-steps-init
 loop-steps-init g c = walked_none (map g.T.Link.link c.args.slots.now) c.args.head
 
-pub returns-in-default : goal.returns-in-default
-returns-in-default g c =
+pub returns-in_default : goal.returns-in_default
+returns-in_default g c =
     let m = map g.T.Link.link c.args.slots.now in
     walked_off m c.args.head c.loop-steps.at c.loop-steps.steps
-    (λ s. c.in-default.ensures (slot_records g.T.Link.link c.args.slots.now c.loop-steps.at s))
+    (λ s. c.in_default.ensures (slot_records g.T.Link.link c.args.slots.now c.loop-steps.at s))
     c.loop-steps.invariant
 
 pub loop-steps-preserved : goal.loop-steps-preserved
@@ -24,9 +24,9 @@ loop-steps-preserved g c =
 pub returns : goal.returns
 returns g c =
     let m = map g.T.Link.link c.args.slots.now in
-    let w : Walked m c.args.head c.loop-steps.at c.last-slot-last.result =
+    let w : Walked m c.args.head c.loop-steps.at c.last_slot-last.result =
     subst (λ (x : ℕ). Walked m c.args.head c.loop-steps.at x) (omega arith) c.loop-steps.invariant
     in
-    walked_all m c.args.head c.loop-steps.at c.last-slot-last.result
-    (rw length-map (omega (arith, c.last-slot-last.ensures)))
+    walked_all m c.args.head c.loop-steps.at c.last_slot-last.result
+    (rw length-map (omega (arith, c.last_slot-last.ensures)))
     w

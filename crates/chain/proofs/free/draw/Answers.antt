@@ -1,15 +1,15 @@
-use Rattle.std.proofs.Common.{◌≡◌, ℕ, List, map, Some, sym, refl, subst}
+use Rattle.std.proofs.Common.{ℕ, map, Some, sym, refl, subst}
 use Rattle.chain.specs.Chain.{Drawn}
 use Rattle.chain.proofs.Records.{slot_links, slot_records}
 use Rattle.chain.proofs.Walks.{drawn_none, drawn_some}
 use Rattle.chain.proofs.free.draw.Goals as goal
 
-pub returns-in-default : goal.returns-in-default
-returns-in-default g c =
+pub returns-in_default : goal.returns-in_default
+returns-in_default g c =
     let link = g.T.Link.link in
     record {
-      answer = (c.in-default.ensures, refl);
-      chain = λ ks h. drawn_none (map link c.args.slots.now) c.args.head.now ks (λ s. c.in-default.ensures (slot_records link c.args.slots.now c.args.head.now s)) h;
+      answer = (c.in_default.ensures, refl);
+      chain = λ ks h. drawn_none (map link c.args.slots.now) c.args.head.now ks (λ s. c.in_default.ensures (slot_records link c.args.slots.now c.args.head.now s)) h;
     }
 
 pub returns : goal.returns

@@ -6,6 +6,6 @@ pub returns : goal.returns
 returns g c =
     record {
       head = refl;
-      chain = λ ks h. given_back g.T.Link.link g.T.Link.linked g.met.T.Link.reads c.args.slots.now c.link-to.new.slots c.args.head.now c.args.slot ks c.requires.inside (c.requires.off ks h) c.link-to.ensures.records h;
-      records = c.link-to.ensures.records;
+      chain = λ ks h. given_back g.T.Link.link g.T.Link.linked g.met.T.Link.reads c.args.slots.now c.link_to.new.slots c.args.head.now c.args.slot ks c.requires.inside (c.requires.off ks h) c.link_to.ensures.records h;
+      records = c.link_to.ensures.records;
     }

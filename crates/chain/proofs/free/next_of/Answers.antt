@@ -1,4 +1,4 @@
-use Rattle.std.proofs.Common.{◌≡◌, length, sym, ◌∙◌, arith}
+use Rattle.std.proofs.Common.{length, sym, ◌∙◌, arith}
 use Rattle.chain.specs.Chain.{Slot}
 use Rattle.chain.proofs.Records.{link_read}
 use Rattle.chain.proofs.free.next_of.Goals as goal

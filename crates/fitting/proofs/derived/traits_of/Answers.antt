@@ -1,6 +1,4 @@
 use mathlib.Core.Path.{◌∙◌, ap, refl}
-use mathlib.Core.List.{List}
-use Rattle.grammar.specs.Site.{Attr}
 use Rattle.fitting.specs.Derived.{bare, begins, dangling}
 use Rattle.fitting.specs.declared.derived.Open.{Open}
 use Rattle.fitting.specs.declared.derived.Opening.{Opening}
@@ -13,11 +11,11 @@ returns c =
     record {
       form = refl;
       attributes = λ cs s.
-          attributes c.args.form cs c.args.children s _ _ _ _ _ _ _ _ _ c.is-call.ensures c.is-target.ensures c.is-in.ensures
-          (c.open-in.ensures cs s ∙ ap (λ (o : Open). bare o cs) c.open-children.ensures)
-          (c.begins.ensures cs s ∙ ap (λ (o : Opening). begins o cs) c.opens-with.ensures)
-          (c.dangles.ensures cs s ∙ ap (λ (t : Tail). dangling t cs) c.tail-of.ensures)
-          c.is-whole.ensures
-          c.is-var.ensures
-          (c.one-name.ensures cs s);
+          attributes c.args.form cs c.args.children s _ _ _ _ _ _ _ _ _ c.is_call.ensures c.is_target.ensures c.is_in.ensures
+          (c.open_in.ensures cs s ∙ ap (λ (o : Open). bare o cs) c.open_children.ensures)
+          (c.begins.ensures cs s ∙ ap (λ (o : Opening). begins o cs) c.opens_with.ensures)
+          (c.dangles.ensures cs s ∙ ap (λ (t : Tail). dangling t cs) c.tail_of.ensures)
+          c.is_whole.ensures
+          c.is_var.ensures
+          (c.one_name.ensures cs s);
     }

@@ -15,8 +15,8 @@ record-returns-in-Fail g t c = not_fail g.S.Sink.rows _ _ _ _ _ _ _ _ c.loop-for
 pub record-returns-in-Finish : goal.record-returns-in-Finish
 record-returns-in-Finish g t c = made g.S.Sink.rows _ _ _ _ _ _ _ _ c.loop-form.invariant.1 _ _ _ _ (sym c.in-Finish.ensures) c.complete.ensures c.nest-slot.ensures
 
-pub record-returns-in-default : goal.record-returns-in-default
-record-returns-in-default g t c = not_eaten g.S.Sink.rows _ _ _ _ _ _ _ _ c.loop-form.invariant.1 c.args.inner _ _ (sym c.in-Eat.ensures) c.in-default.ensures
+pub record-returns-in_default : goal.record-returns-in_default
+record-returns-in_default g t c = not_eaten g.S.Sink.rows _ _ _ _ _ _ _ _ c.loop-form.invariant.1 c.args.inner _ _ (sym c.in-Eat.ensures) c.in_default.ensures
 
 pub record-loop-form-preserved-in-Eat : goal.record-loop-form-preserved-in-Eat
 record-loop-form-preserved-in-Eat g t c = (c.loop-form.invariant.0, carried_eat g.S.Sink.rows _ _ _ _ _ _ _ _ c.loop-form.invariant.1 _ _ _ (sym c.in-Eat.ensures) c.in-Some.ensures)

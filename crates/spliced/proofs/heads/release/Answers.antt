@@ -14,5 +14,5 @@ unlisted s t i x l e =
 pub returns : goal.returns
 returns c =
     record {
-      records = unlisted c.args.slots.now c.give-back.new.slots (c.args.head - 1) _ (omega (arith, c.requires.inside.0, c.requires.inside.1)) (c.give-back.ensures.records blank);
+      records = unlisted c.args.slots.now c.give_back.new.slots (c.args.head - 1) _ (omega (arith, c.requires.inside.0, c.requires.inside.1)) (c.give_back.ensures.records blank);
     }

@@ -1,4 +1,4 @@
-use Rattle.std.proofs.Common.{◌≡◌, ℕ, ◌+◌, Some, None, sym, ap, ◌∙◌, subst, arith}
+use Rattle.std.proofs.Common.{ℕ, ◌+◌, sym, subst, arith}
 use Rattle.std.proofs.lemmas.List.{length-map}
 use Rattle.chain.proofs.Records.{slot_links, slot_records}
 use Rattle.spliced.specs.declared.notes.Note.{Note}
@@ -9,11 +9,11 @@ use Rattle.spliced.proofs.notes.comment_at.Goals as goal
 pub loop-init : goal.loop-init
 loop-init c = left_none (links c.args.slots.now) c.args.first
 
-pub returns-in-default : goal.returns-in-default
-returns-in-default c =
+pub returns-in_default : goal.returns-in_default
+returns-in_default c =
     λ ks h.
     sym (left_off (links c.args.slots.now) c.args.first c.loop.at c.loop.counter c.args.rank (comment_at (comments c.args.slots.now))
-    (λ s. c.in-default.ensures (slot_records (λ (n : Note). n.next) c.args.slots.now c.loop.at s))
+    (λ s. c.in_default.ensures (slot_records (λ (n : Note). n.next) c.args.slots.now c.loop.at s))
     (omega arith)
     c.loop.invariant
     ks h)
@@ -26,7 +26,7 @@ loop-preserved c =
 
 pub returns : goal.returns
 returns c =
-    left_read (links c.args.slots.now) c.args.first c.loop.at c.loop.counter c.args.rank (comment_at (comments c.args.slots.now)) c.comment-of.result
-    (rw length-map c.comment-of.ensures)
+    left_read (links c.args.slots.now) c.args.first c.loop.at c.loop.counter c.args.rank (comment_at (comments c.args.slots.now)) c.comment_of.result
+    (rw length-map c.comment_of.ensures)
     (omega arith)
     c.loop.invariant

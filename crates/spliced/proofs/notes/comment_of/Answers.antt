@@ -1,4 +1,4 @@
-use Rattle.std.proofs.Common.{◌≡◌, ◌-◌, ◌<◌, length, sym, arith}
+use Rattle.std.proofs.Common.{◌-◌, length, sym, arith}
 use Rattle.std.proofs.lemmas.List.{get_or-map}
 use Rattle.chain.specs.Chain.{Slot}
 use Rattle.spliced.specs.declared.notes.Note.{Note}

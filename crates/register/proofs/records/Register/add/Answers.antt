@@ -5,8 +5,8 @@ use Rattle.register.specs.Held.{entries_of}
 use Rattle.register.proofs.Pushed.{sound_push, listing_push, pushed_entries, pushed_others, pushed_length}
 use Rattle.register.proofs.records.Register.add.Goals as goal
 
-pub invariant-of-self : goal.invariant-of-self
-invariant-of-self c =
+pub invariant_of-self : goal.invariant_of-self
+invariant_of-self c =
     let e : Entry = record { comment = c.args.comment; side = c.args.side; offset = c.args.offset; rank = c.count-rank.result } in
     let s = c.args.self.now.entries in
     let t = c.push.new.self in

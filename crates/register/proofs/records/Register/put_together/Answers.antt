@@ -17,8 +17,8 @@ join-requires c =
       fitting = joined_fits (entries_of s) c.args.side c.args.first c.args.second c.args.to c.count-ahead.result ready;
     }
 
-pub invariant-of-self : goal.invariant-of-self
-invariant-of-self c =
+pub invariant_of-self : goal.invariant_of-self
+invariant_of-self c =
     let s = c.args.self.now.entries in
     let t = c.join.new.self in
     let f = moved_to c.args.side c.args.first c.args.second c.args.to c.count-ahead.result in

@@ -1,4 +1,4 @@
-use Rattle.std.proofs.Common.{◌≡◌, sym, refl, ap, ◌∙◌, subst, arith}
+use Rattle.std.proofs.Common.{refl, ◌∙◌}
 use Rattle.spliced.proofs.Whole.{At}
 use Rattle.spliced.proofs.Turns.{next_note, next_head, last_written, last_found, taken_slot, beyond_written, beyond_twice, grow, begin}
 use Rattle.spliced.proofs.chains.Chains.add.Goals as goal

@@ -1,12 +1,12 @@
-use Rattle.std.proofs.Common.{◌≡◌, ℕ, ◌+◌, ◌-◌, min, sym, refl, ap, ◌∙◌}
+use Rattle.std.proofs.Common.{◌∙◌}
 use mathlib.Core.Logic.{∥∥₁_map}
 use Rattle.spliced.proofs.Asking.{list_from}
 use Rattle.spliced.proofs.Turns.{less_room}
 use Rattle.spliced.proofs.store.Spliced.add.Goals as goal
 
-pub invariant-of-self : goal.invariant-of-self
-invariant-of-self c =
-    (c.add.ensures.idle.0, (c.add.ensures.idle.1, (∥∥₁_map c.args.self.now.laid (λ p. (c.add.ensures.laid p).0), tt)))
+pub invariant_of-self : goal.invariant_of-self
+invariant_of-self c =
+    record { high = c.add.ensures.idle.0; idle = c.add.ensures.idle.1; laid = ∥∥₁_map c.args.self.now.laid (λ p. (c.add.ensures.laid p).0) }
 
 pub returns : goal.returns
 returns c =

@@ -1,12 +1,11 @@
-use Rattle.std.proofs.Common.{◌≡◌, ℕ, min, sym, refl, ap, ◌∙◌, arith}
-use Rattle.spliced.specs.Layout.{Laid}
+use Rattle.std.proofs.Common.{sym, arith}
 use Rattle.spliced.proofs.Fresh.{fresh_laid, fresh_empty}
 use Rattle.spliced.proofs.store.Spliced.new.Goals as goal
 
-pub invariant-of-result : goal.invariant-of-result
-invariant-of-result c =
+pub invariant_of-result : goal.invariant_of-result
+invariant_of-result c =
     let laid = fresh_laid _ _ _ _ _ _ (sym c.new.ensures.beyond.0) (sym c.new-2.ensures.beyond.0) c.new.ensures.chain c.new-2.ensures.chain c.new-2.ensures.unused in
-    (c.new-2.ensures.idle.0, (c.new-2.ensures.idle.1, (∣ laid ∣₁, tt)))
+    record { high = c.new-2.ensures.idle.0; idle = c.new-2.ensures.idle.1; laid = ∣ laid ∣₁ }
 
 pub returns : goal.returns
 returns c =

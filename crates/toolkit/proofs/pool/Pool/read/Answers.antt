@@ -10,8 +10,8 @@ returns-in-Err c = record { outcome = (rw c.refused.ensures (refuses _ _ _ c.in-
 pub load-root-requires : goal.load-root-requires
 load-root-requires c = ready _ _ c.args.self.now.accounted _ _ c.in-Ok.ensures _ c.free.ensures (omega (arith, c.if-from-needed.false, c.from.ensures))
 
-pub invariant-of-self : goal.invariant-of-self
-invariant-of-self c = (accounted _ _ c.args.self.now.accounted _ _ c.in-Ok.ensures _ c.free.ensures (omega (arith, c.if-from-needed.false, c.from.ensures)) _ _ c.load-root.ensures, tt)
+pub invariant_of-self : goal.invariant_of-self
+invariant_of-self c = (accounted _ _ c.args.self.now.accounted _ _ c.in-Ok.ensures _ c.free.ensures (omega (arith, c.if-from-needed.false, c.from.ensures)) _ _ c.load-root.ensures, tt)
 
 pub returns : goal.returns
 returns c =

@@ -10,8 +10,8 @@ give-back-requires c =
     let v = c.owns.ensures.yes c.if-not-owns.false in
     record { inside = v.slot; loose = held_ready a a c.args.tree c.key-key.result c.key-key.ensures v c.args.self.now.accounted }
 
-pub invariant-of-self : goal.invariant-of-self
-invariant-of-self c =
+pub invariant_of-self : goal.invariant_of-self
+invariant_of-self c =
     let a : State = state c.args.self.now.number c.args.self.now.store.slots.now c.args.self.now.store.free in
     let z : State = state c.args.self.now.number c.give-back.new.self.slots.now c.give-back.new.self.free in
     let u = held_unloaded a z c.args.tree c.key-key.result c.key-key.ensures (c.owns.ensures.yes c.if-not-owns.false) refl c.give-back.ensures.length c.give-back.ensures.given in

@@ -1,4 +1,3 @@
-use Rattle.std.proofs.Common.{◌≡◌, ℕ}
 use Rattle.spliced.proofs.Asking.{answer_from}
 use Rattle.spliced.proofs.store.meaning.SplicedStore.comment.Goals as goal
 

@@ -3,9 +3,9 @@ use Rattle.spliced.proofs.Asking.{list_from}
 use Rattle.spliced.proofs.Turns.{same_room}
 use Rattle.spliced.proofs.store.meaning.SplicedStore.move_leading.Goals as goal
 
-pub invariant-of-self : goal.invariant-of-self
-invariant-of-self c =
-    (c.splice.ensures.idle.0, (c.splice.ensures.idle.1, (∥∥₁_map c.args.self.now.laid (λ p. (c.splice.ensures.laid p).0), tt)))
+pub invariant_of-self : goal.invariant_of-self
+invariant_of-self c =
+    record { high = c.splice.ensures.idle.0; idle = c.splice.ensures.idle.1; laid = ∥∥₁_map c.args.self.now.laid (λ p. (c.splice.ensures.laid p).0) }
 
 pub returns : goal.returns
 returns c =
