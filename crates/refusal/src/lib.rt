@@ -1,4 +1,6 @@
 // Why a call refuses. A refusal has a number, which names its cause, and a value, which says where or how much.
+#![tactic(auto)]
+
 ghost use Rattle.std.specs.Prelude.{◌≡◌};
 ghost use Rattle.refusal.specs.Table.{numbered, valued};
 

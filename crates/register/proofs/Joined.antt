@@ -5,7 +5,7 @@ use Rattle.std.proofs.ByRecursion.{All-weaker}
 use Rattle.std.proofs.lemmas.List.Sums.{count_by-le-length}
 use Rattle.std.proofs.lemmas.Bool.{cond-true, cond-false, cases_Bool, cases_eq, eq-eqb, ne_eqb}
 use Rattle.std.proofs.lemmas.Bool.Decides.{nat_tests}
-use Rattle.std.specs.List.{AllByRecursion as All}
+use Rattle.std.specs.List.{AllByRecursion}
 use Rattle.comments.specs.declared.store.Side.{Side}
 use Rattle.comments.specs.Lists.{same}
 use Rattle.register.specs.declared.entry.Entry.{Entry}
@@ -109,7 +109,7 @@ joined_lists es side first second to ahead y =
     on_side k = cond-true (same side side) _ _ (same_self side)
 
 -- the ranks that rise stay below the number of entries
-pub joined_fits : (es : List Entry) (side : Side) (first second to ahead : ℕ) → Ready es side first second to ahead → All (λ e. here side second e ≡ true → e.rank + ahead < length es) es
+pub joined_fits : (es : List Entry) (side : Side) (first second to ahead : ℕ) → Ready es side first second to ahead → AllByRecursion (λ e. here side second e ≡ true → e.rank + ahead < length es) es
 joined_fits es side first second to ahead y = All-weaker (Below es) (λ e. here side second e ≡ true → e.rank + ahead < length es) fits es (all_below es y.sound)
   where
     fits : (e : Entry) → Below es e → here side second e ≡ true → e.rank + ahead < length es

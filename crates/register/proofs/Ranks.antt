@@ -3,7 +3,7 @@ use Rattle.std.proofs.Common.{◌≡◌, ℕ, zero, suc, ◌+◌, ◌<◌, ◌�
 use Rattle.std.proofs.lemmas.Bool.{cond-true, cond-false, cases_lt, and_parts, and_from, eqb-true, eq-eqb, lt-ltb, le-ltb}
 use Rattle.std.proofs.lemmas.List.FromFn.{length-map-range_with_len, get_or-map-range_with_len}
 use Rattle.std.proofs.lemmas.Option.{slice_get-get_or, slice_get_past}
-use Rattle.std.specs.List.{slice_get, range_with_len, AllByRecursion as All}
+use Rattle.std.specs.List.{slice_get, range_with_len, AllByRecursion}
 use Rattle.comments.specs.declared.store.Side.{Side}
 use Rattle.comments.specs.declared.store.Side.TheVariants.{Leading, Trailing}
 use Rattle.comments.specs.Lists.{same}
@@ -38,7 +38,7 @@ pub taken_below : (es : List Entry) (side : Side) (k r : ℕ) → Sound es → 0
 taken_below es side k r h l =
     ⊎_elim (λ p. p) (λ p. absurd (omega (arith, not_taken es side k r h p))) (cases_lt r (count_by (here side k) es))
 
-ranks_below : (n : Side → ℕ → ℕ) (es : List Entry) → ((side : Side) (k r : ℕ) → 0 < count_by (ranked side k r) es → r < n side k) → All (λ e. e.rank < n e.side e.offset) es
+ranks_below : (n : Side → ℕ → ℕ) (es : List Entry) → ((side : Side) (k r : ℕ) → 0 < count_by (ranked side k r) es → r < n side k) → AllByRecursion (λ e. e.rank < n e.side e.offset) es
 ranks_below n [] h = tt
 ranks_below n (e ∷ es) h = (
   h e.side e.offset e.rank
@@ -50,7 +50,7 @@ ranks_below n (e ∷ es) h = (
 abbrev pub Below : List Entry → Entry → Type 0
 Below es e = e.rank < count_by (here e.side e.offset) es
 
-pub all_below : (es : List Entry) → Sound es → All (Below es) es
+pub all_below : (es : List Entry) → Sound es → AllByRecursion (Below es) es
 all_below es h = ranks_below (λ side k. count_by (here side k) es) es (λ side k r l. taken_below es side k r h l)
 
 -- lists that are read off by functions alike are equal

@@ -2,7 +2,7 @@
 use Rattle.std.proofs.Common.{◌≡◌, ℕ, ◌+◌, ◌-◌, ◌<◌, ◌≤◌, Bool, false, cond, ◌||◌, ltb, List, [], ◌∷◌, ◌++◌, map, count_by, sym, refl, ap, ◌∙◌, subst, ⊎_elim, arith}
 use Rattle.std.proofs.lemmas.Bool.{cond-true, cond-false, cases_lt, and_left, lt-ltb, le-ltb}
 use Rattle.std.proofs.lemmas.Bool.Decides.{nat_tests}
-use Rattle.std.specs.List.{range_with_len, AllByRecursion as All}
+use Rattle.std.specs.List.{range_with_len, AllByRecursion}
 use Rattle.comments.specs.declared.store.Side.{Side}
 use Rattle.comments.specs.Lists.{same}
 use Rattle.register.specs.declared.entry.Entry.{Entry}
@@ -12,7 +12,7 @@ use Rattle.register.proofs.Ranks.{taken_once, Below, all_below, map_alike, map_s
 use Rattle.register.proofs.OneEntry.{apart_one}
 
 -- entries that pass as others do are as many
-count_map : (P : Entry → Type 0) (p q : Entry → Bool) (f : Entry → Entry) → ((e : Entry) → P e → p (f e) ≡ q e) → (es : List Entry) → All P es → count_by p (map f es) ≡ count_by q es
+count_map : (P : Entry → Type 0) (p q : Entry → Bool) (f : Entry → Entry) → ((e : Entry) → P e → p (f e) ≡ q e) → (es : List Entry) → AllByRecursion P es → count_by p (map f es) ≡ count_by q es
 count_map P p q f h [] a = refl
 count_map P p q f h (e ∷ es) a =
     count_by_cons p (f e) (map f es)
@@ -28,7 +28,7 @@ comment_map :
     → ((e : Entry) → (f e).comment ≡ e.comment)
     → ((e : Entry) → P e → ranked s k r (f e) ≡ ranked t j i e)
     → (es : List Entry)
-    → All P es
+    → AllByRecursion P es
     → comment_at (map f es) s k r ≡ comment_at es t j i
 comment_map P f s t k j r i c h [] a = refl
 comment_map P f s t k j r i c h (e ∷ es) a =
@@ -75,7 +75,7 @@ count_none : (es : List Entry) → count_by (λ e. false) es ≡ 0
 count_none [] = refl
 count_none (e ∷ es) = count_by_cons (λ e. false) e es ∙ omega (arith, count_none es)
 
-all_any : (es : List Entry) → All (λ e. Unit {0}) es
+all_any : (es : List Entry) → AllByRecursion (λ e. Unit {0}) es
 all_any [] = tt
 all_any (e ∷ es) = (tt, all_any es)
 

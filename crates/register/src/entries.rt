@@ -1,6 +1,6 @@
 // What is asked of the entries among the records, and done to them.
 ghost use Rattle.std.specs.Prelude.{◌≡◌, ◌+◌, ◌<◌, ◌≤◌, true, ◌++◌, map, length, drop, count_by, MatchOption, slice_set};
-ghost use Rattle.std.specs.List.{AllByRecursion as All};
+ghost use Rattle.std.specs.List.{AllByRecursion};
 ghost use Rattle.register.specs.Listing.{here, ranked, comment_at};
 ghost use Rattle.register.specs.Joins.{moved_to};
 ghost use Rattle.register.specs.Held.{entries_of};
@@ -33,7 +33,7 @@ impl<'a> Entries<'a> {
     /// Puts two lists together.
     pub(crate) fn join(&mut self, joining: Joining)
         requires inside { self.old.used ≤ length self.old.slots.now }
-        requires fitting { All (λ e. here joining.side joining.second e ≡ true → e.rank + joining.ahead < length (entries_of self.old)) (entries_of self.old) }
+        requires fitting { AllByRecursion (λ e. here joining.side joining.second e ≡ true → e.rank + joining.ahead < length (entries_of self.old)) (entries_of self.old) }
         ensures used { self.new.used ≡ self.old.used }
         ensures slots { self.new.slots.now ≡ map (moved_to joining.side joining.first joining.second joining.to joining.ahead) (entries_of self.old) ++ drop self.old.used self.old.slots.now }
         ensures lender { self.new.slots.ghost_name ≡ self.old.slots.ghost_name }

@@ -1,6 +1,6 @@
 // Putting two lists together, by one pass over the entries.
 ghost use Rattle.std.specs.Prelude.{◌≡◌, ◌+◌, ◌^◌, ◌<◌, ◌≤◌, true, ◌++◌, map, length, take, drop};
-ghost use Rattle.std.specs.List.{AllByRecursion as All};
+ghost use Rattle.std.specs.List.{AllByRecursion};
 ghost use Rattle.register.specs.Listing.{here};
 ghost use Rattle.register.specs.Joins.{moved_to};
 
@@ -43,7 +43,7 @@ impl Joining {
 
 /// Puts two lists together. The records are all entries.
 fn rejoin_each(entries: &mut [Entry], joining: Joining)
-    requires { All (λ e. here joining.side joining.second e ≡ true → e.rank + joining.ahead < length entries.old) entries.old }
+    requires { AllByRecursion (λ e. here joining.side joining.second e ≡ true → e.rank + joining.ahead < length entries.old) entries.old }
     ensures { entries.new ≡ map (moved_to joining.side joining.first joining.second joining.to joining.ahead) entries.old }
 {
     for e in entries.iter_mut() {
@@ -54,7 +54,7 @@ fn rejoin_each(entries: &mut [Entry], joining: Joining)
 /// The same where only the first `used` records are entries: those behind them stay.
 pub fn join(slots: &mut [Entry], used: usize, joining: Joining)
     requires inside { used ≤ length slots.old }
-    requires fitting { All (λ e. here joining.side joining.second e ≡ true → e.rank + joining.ahead < length (take used slots.old)) (take used slots.old) }
+    requires fitting { AllByRecursion (λ e. here joining.side joining.second e ≡ true → e.rank + joining.ahead < length (take used slots.old)) (take used slots.old) }
     ensures { slots.new ≡ map (moved_to joining.side joining.first joining.second joining.to joining.ahead) (take used slots.old) ++ drop used slots.old }
 {
     rejoin_each(&mut slots[..used], joining);

@@ -1,4 +1,6 @@
 // A comment store that is a register of each comment's offset and rank, over records lent by the caller.
+#![tactic(auto)]
+
 mod adding;
 mod entries;
 mod entry;

@@ -1,9 +1,9 @@
 -- How each code is spelled.
 --
 --   spelling c       the bytes of the one spelling of c, or none: a name, a number and a string have no fixed spelling
---   CodeOf s r      r is the code that is spelled s, or none where no code is
---   SpelledApart    no two codes are spelled alike
---   ExactlyIf       a text has a code exactly if the code is spelled so, and none exactly if no code is
+--   CodeOf s r       r is the code that is spelled s, or none where no code is
+--   SpelledApart     no two codes are spelled alike
+--   ExactlyIf        a text has a code exactly if the code is spelled so, and none exactly if no code is
 --
 -- Assumes nothing.
 use Rattle.std.specs.Prelude.{◌≡◌, ℕ, List, Some, None, codes, Option, ◌≢◌}

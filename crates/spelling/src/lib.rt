@@ -1,5 +1,7 @@
 // The fixed spellings: from a spelling to its code, and back.
 
+#![tactic(auto)]
+
 mod text;
 
 ghost use Rattle.std.specs.Prelude.{◌≡◌, ℕ, List, Some, None};

@@ -1,4 +1,6 @@
 // From a rule's words, with spaces between them, to its tokens.
+#![tactic(auto)]
+
 mod shape;
 mod tokens;
 

@@ -11,17 +11,17 @@ pub returns-in_default : goal.returns-in_default
 returns-in_default c =
     let words : Differs word_spelling c.args.spelling.now =
     elim [
-      | word.Null ↦ c.in_default.not_null
-      | word.True ↦ c.in_default.not_true
-      | word.False ↦ c.in_default.not_false
+      | word.Null ↦ c.in_default.not-null
+      | word.True ↦ c.in_default.not-true
+      | word.False ↦ c.in_default.not-false
       | word.This ↦ c.in_default.not-this
       | word.Function ↦ c.in_default.not-function
       | word.Typeof ↦ c.in_default.not-typeof
       | word.Void ↦ c.in_default.not-void
       | word.Delete ↦ c.in_default.not-delete
-      | word.In ↦ c.in_default.not_in
+      | word.In ↦ c.in_default.not-in
       | word.Instanceof ↦ c.in_default.not-instanceof
-      | word.New ↦ c.in_default.not_new
+      | word.New ↦ c.in_default.not-new
       | word.Await ↦ c.in_default.not-await
       | word.Yield ↦ c.in_default.not-yield
       | word.Var ↦ c.in_default.not-var

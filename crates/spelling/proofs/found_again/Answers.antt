@@ -5,9 +5,9 @@ use Rattle.spelling.proofs.found_again.Goals as goal
 
 pub returns : goal.returns
 returns c =
-    let text = c.in-ok-spelling-of.field-0.now in
-    let is = c.in-ok-spelling-of.ensures in
+    let text = c.in_ok-spelling_of.field-0.now in
+    let is = c.in_ok-spelling_of.ensures in
     record {
-      spelled = λ s e. round_trip c.args.code text c.code-of.result is c.code-of.ensures;
+      spelled = λ s e. round_trip c.args.code text c.code_of.result is c.code_of.ensures;
       unspelled = λ e. elim (no_text text (sym e ∙ is)) [ ];
     }

@@ -13,7 +13,10 @@ invariant_of-self c =
     let room : s.used < length s.slots.now = omega (arith, c.spare.ensures) in
     let long = pushed_length s.slots.now t.slots.now s.used e c.push.ensures.slots in
     let es = pushed_entries s.slots.now t.slots.now s.used t.used e room c.push.ensures.used c.push.ensures.slots in
-    (omega (arith, c.push.ensures.used), (subst Sound (sym es) (sound_push (entries_of s) e c.args.self.now.sound c.count-rank.ensures), tt))
+    record {
+      inside = omega (arith, c.push.ensures.used);
+      sound = subst Sound (sym es) (sound_push (entries_of s) e c.args.self.now.sound c.count-rank.ensures);
+    }
 
 pub returns : goal.returns
 returns c =

@@ -26,7 +26,10 @@ invariant_of-self c =
     record { sound = c.args.self.now.sound; apart = c.requires.apart; ends = c.requires.ends; long = c.count-ahead.ensures }
     in
     let es = joined_entries f s.slots.now t.slots.now s.used t.used c.args.self.now.inside c.join.ensures.used c.join.ensures.slots in
-    (joined_inside f s.slots.now t.slots.now s.used t.used c.args.self.now.inside c.join.ensures.used c.join.ensures.slots, (subst Sound (sym es) (joined_sound (entries_of s) c.args.side c.args.first c.args.second c.args.to c.count-ahead.result ready), tt))
+    record {
+      inside = joined_inside f s.slots.now t.slots.now s.used t.used c.args.self.now.inside c.join.ensures.used c.join.ensures.slots;
+      sound = subst Sound (sym es) (joined_sound (entries_of s) c.args.side c.args.first c.args.second c.args.to c.count-ahead.result ready);
+    }
 
 pub returns : goal.returns
 returns c =

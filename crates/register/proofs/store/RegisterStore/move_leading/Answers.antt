@@ -6,8 +6,8 @@ use Rattle.register.proofs.store.RegisterStore.move_leading.Goals as goal
 pub returns-then-from-to : goal.returns-then-from-to
 returns-then-from-to c =
     record {
-      moved = λ side k. c.put-together.ensures.lists side k ∙ led (lists_of c.args.self.now) c.args.from c.args.to c.if-from-to.true side k;
-      vacant = room_kept _ _ _ _ c.put-together.ensures.beyond;
-      beyond = c.put-together.ensures.beyond;
-      lender = c.put-together.ensures.lender;
+      moved = λ side k. c.put_together.ensures.lists side k ∙ led (lists_of c.args.self.now) c.args.from c.args.to c.if-from-to.true side k;
+      vacant = room_kept _ _ _ _ c.put_together.ensures.beyond;
+      beyond = c.put_together.ensures.beyond;
+      lender = c.put_together.ensures.lender;
     }
