@@ -1,17 +1,17 @@
 -- The loop over the steps of a record.
-use Rattle.std.proofs.Common.{◌≡◌, ℕ, zero, suc, ◌+◌, ◌<◌, ◌≤◌, max, Bool, true, false, cond, List, [], ◌∷◌, length, sym, refl, ap, ◌∙◌, subst, arith}
+use Rattle.std.proofs.Common.{◌≡◌, ℕ, suc, ◌+◌, ◌≤◌, max, Bool, true, false, List, [], ◌∷◌, length, sym, refl, ap, ◌∙◌, subst, arith}
 use mathlib.Core.Option.{Option, none, some, none-ne-some}
 use Rattle.token.specs.Same.{same_code}
 use Rattle.token.specs.declared.Token.{Token}
 use Rattle.token.specs.declared.Code.{Code}
 use Rattle.kinds.specs.Levels.{is_c, is_target}
 use Rattle.kinds.specs.declared.form.Form.{Form}
-use Rattle.grammar.specs.Tree.{Head, head, head_of, Tree, Forest, node, nil, ◌▸◌, ◌⊕◌, size, sizes, depth, depths}
-use Rattle.grammar.specs.Layout.{attr, attrs, first_standing}
+use Rattle.grammar.specs.Tree.{Head, head_of, Tree, Forest, nil, ◌▸◌, ◌⊕◌, size, sizes, depth, depths}
+use Rattle.grammar.specs.Layout.{attr}
 use Rattle.grammar.specs.Parser.{Goal, Mode, mode, Do, fail, fin, eat, sub, settle, starts, Ran, ran, bind, exec, parse, perform}
 use Rattle.reader.specs.Table.{view}
-use Rattle.reader.specs.Reads.{standing_of, Started, Alone, Joined, Completed, Behind, own, Reads, Runs, no_kids, Shape, Holds, Shaped, Bad, Parsed, NotParsed, Made, NotMade, graft, Carried}
-use Rattle.reader.specs.Rows.{single, Nested, Pushed}
+use Rattle.reader.specs.Reads.{Joined, Completed, Behind, own, Shape, Holds, Bad, Parsed, NotParsed, Made, NotMade, graft, Carried}
+use Rattle.reader.specs.Rows.{Nested, Pushed}
 use Rattle.reader.specs.declared.sink.Row.{Row}
 use Rattle.reader.specs.declared.found.Found.{Found}
 use Rattle.reader.specs.declared.found.Parts.{Parts}

@@ -1,20 +1,17 @@
 -- Whole scripts.
-use Rattle.std.proofs.Common.{◌≡◌, ℕ, zero, suc, ◌+◌, ◌*◌, ◌<◌, ◌≤◌, max, Bool, true, false, cond, ◌&&◌, T, ltb, List, [], ◌∷◌, length, drop, sym, refl, ap, ◌∙◌, subst, arith, length-drop, drop_of_length-le, ltb-false, ltb-true}
-use mathlib.Core.Option.{Option, none, some, none-ne-some}
+use Rattle.std.proofs.Common.{◌≡◌, ℕ, zero, suc, ◌+◌, ◌*◌, ◌<◌, ◌≤◌, Bool, true, false, cond, T, ltb, List, [], ◌∷◌, length, drop, sym, refl, ap, ◌∙◌, subst, arith, length-drop, drop_of_length-le, ltb-false, ltb-true}
+use mathlib.Core.Option.{none, some, none-ne-some}
 use Rattle.token.specs.declared.Token.{Token}
 use Rattle.kinds.specs.declared.form.Form.TheVariants as form
-use Rattle.grammar.specs.Tree.{Head, head, head_of, Tree, Forest, node, nil, ◌▸◌, size, sizes, depth, depths}
-use Rattle.grammar.specs.Site.{root, ok}
-use Rattle.grammar.specs.Layout.{attr, good, wr}
+use Rattle.grammar.specs.Tree.{head, Tree, Forest, node, nil, ◌▸◌, depth, depths}
 use Rattle.grammar.specs.Derives.{lo_of}
-use Rattle.grammar.specs.Shape.{codes}
 use Rattle.grammar.specs.Claim as claim
-use Rattle.grammar.specs.Read.{same_codes, empty, entire, checked, read}
-use Rattle.grammar.specs.Parser.{Goal, scr, Do, stms, fin, prefix, Ran, ran, bind, Res, begun, parse, loop, perform}
-use Rattle.grammar.proofs.Tests.{and_l, and_r}
+use Rattle.grammar.specs.Read.{empty, entire, checked, read}
+use Rattle.grammar.specs.Parser.{scr, stms, fin, Ran, ran, Res, begun, parse, loop, perform}
+use Rattle.grammar.proofs.Tests.{and_l}
 use Rattle.grammar.proofs.Exact.{read_derives}
 use Rattle.reader.specs.Table.{view}
-use Rattle.reader.specs.Reads.{Reads, Shape, Started, Bad, Made, NotMade}
+use Rattle.reader.specs.Reads.{Reads, Shape, Started, Made, NotMade}
 use Rattle.reader.specs.Width.{Scripted, NotScript, refused_of}
 use Rattle.reader.specs.declared.found.Found.{Found}
 use Rattle.reader.specs.declared.found.Parts.{Parts}

@@ -1,10 +1,10 @@
 -- The loop over what follows an expression.
-use Rattle.std.proofs.Common.{◌≡◌, ℕ, zero, suc, ◌+◌, ◌-◌, ◌<◌, ◌≤◌, max, Bool, true, false, cond, T, List, [], ◌∷◌, length, sym, refl, ap, ◌∙◌, subst, arith}
-use mathlib.Core.Option.{Option, none, some, none-ne-some}
+use Rattle.std.proofs.Common.{◌≡◌, ℕ, zero, suc, ◌+◌, ◌-◌, ◌<◌, ◌≤◌, Bool, true, false, cond, T, List, sym, refl, ap, ◌∙◌, subst, arith}
+use mathlib.Core.Option.{some, none-ne-some}
 use Rattle.token.specs.declared.Token.{Token}
-use Rattle.kinds.specs.Levels.{Standing, is_c, is_o, is_target, standing}
-use Rattle.grammar.specs.Tree.{Head, head, head_of, Tree, Forest, node, nil, ◌▸◌, ◌⊕◌, size, sizes, depth, depths}
-use Rattle.grammar.specs.Layout.{attr, attrs, first_standing}
+use Rattle.kinds.specs.Levels.{is_c, is_o, is_target}
+use Rattle.grammar.specs.Tree.{Head, head, head_of, Tree, Forest, node, nil, ◌▸◌, size, sizes, depth, depths}
+use Rattle.grammar.specs.Layout.{attr, attrs}
 use Rattle.grammar.specs.Derives.{lo_of}
 use Rattle.grammar.specs.Parser.{Goal, Do, prefix, After, frame_do, frame, next, goes_on, Ran, ran, bind, begun, grown_on, parse, loop, perform}
 use Rattle.reader.specs.Table.{view, Turns}

@@ -1,4 +1,4 @@
-use Rattle.std.proofs.Common.{◌≡◌, sym, ◌∙◌}
+use Rattle.std.proofs.Common.{sym, ◌∙◌}
 use Rattle.reader.specs.Table.{turn_of}
 use Rattle.reader.specs.Reads.{standing_of}
 use Rattle.reader.proofs.Taking.{taken_is}

@@ -1,4 +1,4 @@
-use Rattle.std.proofs.Common.{◌≡◌, ◌∙◌}
+use Rattle.std.proofs.Common.{◌∙◌}
 use Rattle.reader.proofs.store.StoreSink.nest.Goals as goal
 
 pub returns : goal.returns
