@@ -1,5 +1,5 @@
 -- Every record but a script eats a token of its own.
-use Rattle.std.proofs.Common.{◌≡◌, ℕ, ◌≤◌, Bool, true, false, cond, not, ◌&&◌, T, List, [], ◌∷◌, sym, refl, subst, arith}
+use Rattle.std.proofs.Common.{◌≤◌, Bool, true, false, cond, ◌&&◌, T, List, [], ◌∷◌, arith}
 use Rattle.token.specs.declared.Token.{Token}
 use Rattle.token.specs.declared.Code.{Code}
 use Rattle.token.specs.declared.Code.TheVariants as code
@@ -9,8 +9,7 @@ use Rattle.token.specs.declared.punctuator.Punctuator.{Punctuator}
 use Rattle.token.specs.declared.punctuator.Punctuator.TheVariants as punctuator
 use Rattle.token.specs.declared.operator.Operator.{Operator}
 use Rattle.token.specs.declared.operator.Operator.TheVariants as operator
-use Rattle.kinds.specs.Levels.{Standing, is_o}
-use Rattle.kinds.specs.declared.form.Form.{Form}
+use Rattle.kinds.specs.Levels.{Standing}
 use Rattle.grammar.specs.Codes.{comma, arrow}
 use Rattle.grammar.specs.Layout.{code_begin}
 use Rattle.grammar.specs.Site.{is_other}

@@ -1,11 +1,11 @@
 -- More steps change no answer of the grammar's reader, and its loop never makes a tree less deep.
-use Rattle.std.proofs.Common.{◌≡◌, ℕ, zero, suc, ◌+◌, ◌-◌, ◌<◌, ◌≤◌, max, Bool, true, false, cond, List, [], ◌∷◌, sym, refl, ap, ◌∙◌, subst, arith}
+use Rattle.std.proofs.Common.{◌≡◌, ℕ, zero, suc, ◌+◌, ◌-◌, ◌≤◌, Bool, true, false, cond, List, [], ◌∷◌, refl, ap, subst, arith}
 use mathlib.Core.Option.{Option, none, some, none-ne-some}
 use Rattle.token.specs.Same.{same_code}
 use Rattle.token.specs.declared.Token.{Token}
-use Rattle.grammar.specs.Tree.{Head, head_of, Tree, Forest, node, nil, ◌▸◌, depth, depths}
+use Rattle.grammar.specs.Tree.{head_of, Tree, depth}
 use Rattle.grammar.specs.Layout.{attr}
-use Rattle.grammar.specs.Parser.{Goal, Mode, mode, Do, fail, fin, eat, sub, peek, more, items, stms, operand, names, behind, prefix, frame_do, frame, next, goes_on, settle, Ran, ran, bind, Res, exec, begun, grown_on, parse, loop, perform}
+use Rattle.grammar.specs.Parser.{Goal, mode, Do, fail, fin, eat, sub, peek, more, items, stms, operand, names, behind, prefix, frame_do, frame, next, goes_on, settle, Ran, bind, Res, exec, begun, grown_on, parse, loop, perform}
 
 -- o answers no more than o'
 abbrev ◌⊑◌ : {B : Type 0} → Option B → Option B → Type 0

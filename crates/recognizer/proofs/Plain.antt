@@ -1,5 +1,5 @@
 -- No child of a record is read as a script.
-use Rattle.std.proofs.Common.{◌≡◌, ℕ, ◌≤◌, Bool, true, false, cond, not, ◌&&◌, T, List, [], ◌∷◌, sym, refl, subst, arith}
+use Rattle.std.proofs.Common.{Bool, true, false, cond, ◌&&◌, T, List, [], ◌∷◌}
 use Rattle.token.specs.declared.Token.{Token}
 use Rattle.token.specs.declared.Code.{Code}
 use Rattle.token.specs.declared.Code.TheVariants as code
@@ -9,8 +9,7 @@ use Rattle.token.specs.declared.punctuator.Punctuator.{Punctuator}
 use Rattle.token.specs.declared.punctuator.Punctuator.TheVariants as punctuator
 use Rattle.token.specs.declared.operator.Operator.{Operator}
 use Rattle.token.specs.declared.operator.Operator.TheVariants as operator
-use Rattle.kinds.specs.Levels.{Standing, is_o}
-use Rattle.kinds.specs.declared.form.Form.{Form}
+use Rattle.kinds.specs.Levels.{Standing}
 use Rattle.grammar.specs.Codes.{comma, arrow}
 use Rattle.grammar.specs.Layout.{code_begin}
 use Rattle.grammar.specs.Site.{is_other}
@@ -19,7 +18,7 @@ use Rattle.grammar.specs.Parser.{Goal, ex, stm, blk, dec, prp, nam, scr, Do, fai
 use Rattle.recognizer.specs.Width.{plain, not_script}
 use Rattle.recognizer.specs.Reads.{eats}
 use Rattle.recognizer.proofs.Eats.{prefix_eats}
-use Rattle.recognizer.specs.declared.goal.Goal.TheVariants.{Expression, Statement, Block, Declaration, Property, Name}
+use Rattle.recognizer.specs.declared.goal.Goal.TheVariants.{Expression, Statement}
 
 either : (b : Bool) (s t : Do) → T (plain s) → T (plain t) → T (plain (cond b s t))
 either true s t h k = h

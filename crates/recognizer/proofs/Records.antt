@@ -1,19 +1,19 @@
 -- The loop over the steps of a record.
-use Rattle.std.proofs.Common.{◌≡◌, ℕ, zero, suc, ◌+◌, ◌<◌, ◌≤◌, max, Bool, true, false, cond, ◌&&◌, List, [], ◌∷◌, ◌++◌, length, sym, refl, ap, ◌∙◌, subst, arith}
+use Rattle.std.proofs.Common.{◌≡◌, ℕ, suc, ◌+◌, ◌≤◌, max, Bool, true, false, ◌&&◌, List, [], ◌∷◌, ◌++◌, length, sym, refl, ap, ◌∙◌, subst, arith}
 use mathlib.Core.Option.{Option, none, some, none-ne-some}
 use Rattle.token.specs.Same.{same_code}
 use Rattle.token.specs.declared.Token.{Token}
 use Rattle.token.specs.declared.Code.{Code}
 use Rattle.kinds.specs.declared.form.Form.{Form}
-use Rattle.grammar.specs.Tree.{Head, head, head_of, Tree, Forest, node, nil, ◌▸◌, ◌⊕◌, size, sizes, depth, depths}
+use Rattle.grammar.specs.Tree.{Head, head_of, Tree, Forest, nil, ◌▸◌, ◌⊕◌, size, sizes, depth, depths}
 use Rattle.grammar.specs.Site.{Attr}
 use Rattle.grammar.specs.Layout.{layout, attr_of, attr, attrs, fit_kids, good, goods}
 use Rattle.fitting.specs.Summary.{Sums}
 use Rattle.fitting.specs.declared.summary.Summary.{Summary}
 use Rattle.grammar.specs.Parser.{Goal, Mode, mode, Do, fail, fin, eat, sub, settle, starts, Ran, ran, bind, exec, parse, perform}
 use Rattle.recognizer.specs.Table.{view}
-use Rattle.recognizer.specs.Reads.{Started, Alone, Joined, Completed, Behind, own, Reads, Runs, Shape, Holds, Shaped, Bad, Parsed, NotParsed, Made, NotMade, graft, Carried}
-use Rattle.recognizer.specs.Rows.{single, Nested, Pushed}
+use Rattle.recognizer.specs.Reads.{Joined, Completed, Behind, own, Shape, Holds, Shaped, Bad, Parsed, NotParsed, Made, NotMade, graft, Carried}
+use Rattle.recognizer.specs.Rows.{Nested, Pushed}
 use Rattle.recognizer.specs.declared.sink.Row.{Row}
 use Rattle.recognizer.specs.declared.found.Found.{Found}
 use Rattle.recognizer.specs.declared.found.Parts.{Parts}

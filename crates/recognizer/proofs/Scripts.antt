@@ -1,22 +1,21 @@
 -- Whole scripts.
-use Rattle.std.proofs.Common.{◌≡◌, ℕ, zero, suc, ◌+◌, ◌*◌, ◌<◌, ◌≤◌, max, Bool, true, false, cond, not, ◌&&◌, T, eqb, ltb, List, [], ◌∷◌, length, drop, sym, refl, ap, ◌∙◌, subst, arith, length-drop, drop_of_length-le, ltb-false, ltb-true}
-use mathlib.Core.Option.{Option, none, some, none-ne-some}
+use Rattle.std.proofs.Common.{◌≡◌, ℕ, zero, suc, ◌+◌, ◌*◌, ◌<◌, ◌≤◌, Bool, true, false, cond, not, T, eqb, ltb, List, [], ◌∷◌, length, drop, sym, refl, ap, ◌∙◌, subst, arith, length-drop, drop_of_length-le, ltb-false, ltb-true}
+use mathlib.Core.Option.{none, some, none-ne-some}
 use Rattle.token.specs.declared.Token.{Token}
 use Rattle.kinds.specs.declared.form.Form.{Form}
 use Rattle.kinds.specs.declared.form.Form.TheVariants as form
-use Rattle.grammar.specs.Tree.{Head, head, head_of, Tree, Forest, node, nil, ◌▸◌, size, sizes, depth, depths}
+use Rattle.grammar.specs.Tree.{head, head_of, Tree, Forest, node, nil, ◌▸◌, depth, depths}
 use Rattle.grammar.specs.Site.{root, ok, sort_rank}
-use Rattle.grammar.specs.Layout.{attr, good, Good, wr, sort_of}
+use Rattle.grammar.specs.Layout.{attr, good, Good, sort_of}
 use Rattle.grammar.specs.Derives.{lo_of}
-use Rattle.grammar.specs.Shape.{codes}
 use Rattle.grammar.specs.Claim as claim
-use Rattle.grammar.specs.Read.{same_codes, empty, entire, checked, read}
-use Rattle.grammar.specs.Parser.{Goal, stm, scr, free, Do, sub, stms, fin, at_stop, prefix, Ran, ran, bind, Res, exec, begun, parse, loop, perform}
-use Rattle.grammar.proofs.Tests.{and_l, and_r}
+use Rattle.grammar.specs.Read.{empty, entire, checked, read}
+use Rattle.grammar.specs.Parser.{stm, scr, free, sub, stms, fin, at_stop, Ran, ran, Res, exec, begun, parse, loop, perform}
+use Rattle.grammar.proofs.Tests.{and_l}
 use Rattle.grammar.proofs.Exact.{read_derives, good_derives, derived_good}
 use Rattle.grammar.proofs.Written.{found_written}
 use Rattle.recognizer.specs.Table.{view}
-use Rattle.recognizer.specs.Reads.{Reads, Shape, Started, Bad, Made, NotMade}
+use Rattle.recognizer.specs.Reads.{Reads, Shape, Started, Made, NotMade}
 use Rattle.recognizer.specs.Width.{Scripted, NotScript, refused_of}
 use Rattle.recognizer.specs.declared.found.Found.{Found}
 use Rattle.recognizer.specs.declared.found.Parts.{Parts}

@@ -1,9 +1,9 @@
 -- The loop over what follows an expression.
-use Rattle.std.proofs.Common.{◌≡◌, ℕ, zero, suc, ◌+◌, ◌-◌, ◌<◌, ◌≤◌, max, Bool, true, false, cond, ◌&&◌, T, List, [], ◌∷◌, length, sym, refl, ap, ◌∙◌, subst, arith}
-use mathlib.Core.Option.{Option, none, some, none-ne-some}
+use Rattle.std.proofs.Common.{◌≡◌, ℕ, zero, suc, ◌+◌, ◌-◌, ◌<◌, ◌≤◌, Bool, true, false, cond, ◌&&◌, T, List, [], ◌∷◌, sym, refl, ap, ◌∙◌, subst, arith}
+use mathlib.Core.Option.{some, none-ne-some}
 use Rattle.token.specs.declared.Token.{Token}
 use Rattle.kinds.specs.Levels.{is_o}
-use Rattle.grammar.specs.Tree.{Head, head, head_of, Tree, Forest, node, nil, ◌▸◌, ◌⊕◌, size, sizes, depth, depths}
+use Rattle.grammar.specs.Tree.{Head, head, head_of, Tree, Forest, node, nil, ◌▸◌, size, sizes, depth, depths}
 use Rattle.grammar.specs.Site.{Attr}
 use Rattle.grammar.specs.Layout.{attr, attrs, good, goods, sort_of}
 use Rattle.fitting.specs.Summary.{Sums}

@@ -1,16 +1,16 @@
 -- A tree that is found has no more records than tokens (a script one more), and nests no deeper.
-use Rattle.std.proofs.Common.{◌≡◌, ℕ, zero, suc, ◌+◌, ◌<◌, ◌≤◌, max, Bool, true, false, cond, ◌&&◌, T, List, [], ◌∷◌, length, sym, refl, ap, ◌∙◌, subst, arith}
-use mathlib.Core.Option.{Option, none, some, none-ne-some}
+use Rattle.std.proofs.Common.{◌≡◌, ℕ, zero, suc, ◌+◌, ◌≤◌, Bool, true, false, cond, T, List, [], ◌∷◌, length, ap, subst, arith}
+use mathlib.Core.Option.{none, some, none-ne-some}
 use Rattle.token.specs.Same.{same_code}
 use Rattle.token.specs.declared.Token.{Token}
 use Rattle.grammar.proofs.Tests.{and_l, and_r}
-use Rattle.grammar.specs.Tree.{Head, head_of, Tree, Forest, node, nil, ◌▸◌, size, sizes, depth, depths}
+use Rattle.grammar.specs.Tree.{head_of, Tree, Forest, node, nil, ◌▸◌, size, sizes, depth, depths}
 use Rattle.grammar.specs.Layout.{attr}
-use Rattle.grammar.specs.Parser.{Goal, mode, Do, fail, fin, eat, sub, peek, more, items, stms, operand, names, behind, prefix, frame_do, frame, next, goes_on, settle, Ran, ran, bind, Res, exec, begun, grown_on, parse, loop, perform}
+use Rattle.grammar.specs.Parser.{Goal, mode, Do, fail, fin, eat, sub, peek, more, items, stms, operand, names, behind, prefix, frame_do, frame, next, goes_on, settle, Ran, ran, bind, exec, begun, grown_on, parse, loop, perform}
 use Rattle.recognizer.specs.Reads.{own}
 use Rattle.recognizer.specs.Width.{plain, not_script}
 use Rattle.recognizer.proofs.Fuel.{bind_inv, some_one}
-use Rattle.recognizer.proofs.Eats.{own_settle, own_one, own_true, frame_eats}
+use Rattle.recognizer.proofs.Eats.{own_settle, own_true, frame_eats}
 use Rattle.recognizer.proofs.Plain.{settled, prefix_plain, frame_plain, goal_eats}
 
 abbrev WP : ℕ → Type 0

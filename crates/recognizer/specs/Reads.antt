@@ -8,7 +8,7 @@
 --   Carried Climbed       what holds in their loops
 --
 -- Assumes nothing.
-use Rattle.std.specs.Prelude.{◌≡◌, ℕ, ◌+◌, ◌<◌, ◌≤◌, max, Bool, true, false, cond, ◌&&◌, T, List, [], ◌∷◌, ◌++◌, length, Some, None, Option as OptionR}
+use Rattle.std.specs.Prelude.{◌≡◌, ℕ, ◌+◌, ◌<◌, ◌≤◌, max, Bool, true, false, cond, ◌&&◌, List, [], ◌∷◌, ◌++◌, length, Some, None, Option as OptionR}
 use Rattle.std.proofs.Math.Option.{Option, none, some}
 use Rattle.token.specs.declared.Token.{Token}
 use Rattle.token.specs.declared.Code.{Code}
@@ -16,17 +16,15 @@ use Rattle.token.specs.Same.{same_code}
 use Rattle.kinds.specs.Levels.{Standing}
 use Rattle.kinds.specs.declared.form.Form.{Form}
 use Rattle.grammar.specs.Site.{Attr}
-use Rattle.grammar.specs.Tree.{Head, head, head_of, Tree, Forest, node, nil, ◌▸◌, ◌⊕◌, size, sizes, depth, depths}
+use Rattle.grammar.specs.Tree.{head, head_of, Tree, Forest, node, nil, ◌▸◌, ◌⊕◌, size, sizes, depth, depths}
 use Rattle.grammar.specs.Layout.{layout, attr_of, attr, attrs, fit_kids, good, goods, sort_of}
 use Rattle.grammar.specs.Derives.{lo_of}
 use Rattle.grammar.specs.Parser.{Goal, Do, fail, fin, eat, sub, peek, more, items, stms, operand, names, behind, Ran, ran, parse, loop, perform, goes_on, frame, next, starts}
 use Rattle.fitting.specs.Traits.{traits_of}
 use Rattle.fitting.specs.Summary.{Sums}
-use Rattle.recognizer.specs.Table.{view, goal_of, do_of}
+use Rattle.recognizer.specs.Table.{view}
 use Rattle.recognizer.specs.Rows.{single}
 use Rattle.recognizer.specs.declared.sink.Row.{Row}
-use Rattle.recognizer.specs.declared.goal.Goal.{Goal as GoalR}
-use Rattle.recognizer.specs.declared.rest.Rest.{Rest}
 use Rattle.recognizer.specs.declared.found.Found.{Found}
 use Rattle.recognizer.specs.declared.found.Parts.{Parts}
 use Rattle.recognizer.specs.declared.tree.Unread.{Unread}

@@ -6,19 +6,18 @@
 --   turn_of        what a token does behind an expression
 --
 -- Assumes nothing.
-use Rattle.std.specs.Prelude.{◌≡◌, ℕ, ◌+◌, ◌<◌, Bool, true, false, cond, ◌&&◌, T, List, [], ◌∷◌, length, drop, Some, None, Option}
+use Rattle.std.specs.Prelude.{◌≡◌, ℕ, ◌+◌, ◌<◌, Bool, true, false, T, List, [], ◌∷◌, length, drop, Some, None, Option}
 use Rattle.token.specs.declared.Token.{Token}
 use Rattle.token.specs.declared.Code.{Code}
 use Rattle.kinds.specs.declared.form.Form.{Form}
 use Rattle.kinds.specs.declared.form.Form.TheVariants as form
 use Rattle.kinds.specs.declared.form.Key.TheVariants as key
-use Rattle.kinds.specs.declared.form.Own.{Own}
 use Rattle.kinds.specs.declared.form.Own.TheVariants as own
 use Rattle.kinds.specs.declared.form.Arguments.TheVariants as arguments
 use Rattle.kinds.specs.declared.form.Link.TheVariants as link
 use Rattle.kinds.specs.declared.form.Entry.TheVariants as entry
 use Rattle.kinds.specs.declared.level.Slot.TheVariants as slot
-use Rattle.grammar.specs.Codes.{open_paren, close_paren, open_bracket, close_bracket, open_brace, close_brace, semicolon, comma, dot, colon, question, question_dot, arrow, equals, word_function, word_in, word_new, word_yield, word_var, word_return, word_if, word_else, word_while, word_for}
+use Rattle.grammar.specs.Codes.{open_paren, close_paren, open_bracket, close_bracket, open_brace, close_brace, semicolon, comma, colon, question, question_dot, arrow, equals, word_var, word_if, word_else, word_while}
 use Rattle.grammar.specs.Parser as parser
 use Rattle.kinds.specs.Levels.{Standing, standing, is_c, is_o, is_target}
 use Rattle.grammar.specs.Parser.{Do, fail, fin, eat, sub, peek, more, items, stms, operand, names, behind, for_test, for_update, for_body, in_or, block_do, return_do, plain_do, for_do, prop_do, fn_do, new_do, yield_do, test_then, params_then, frame_do, frame, is_frame, grown}

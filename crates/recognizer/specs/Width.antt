@@ -6,7 +6,7 @@
 --   Recognized ts n  ts reads as a tree of n records that is at most 512 deep
 --
 -- Assumes nothing.
-use Rattle.std.specs.Prelude.{◌≡◌, ℕ, ◌<◌, ◌≤◌, Bool, true, false, cond, ◌&&◌, List, [], length, nat_lt}
+use Rattle.std.specs.Prelude.{◌≡◌, ℕ, ◌<◌, ◌≤◌, Bool, true, false, cond, ◌&&◌, List, length, nat_lt}
 use Rattle.token.specs.declared.Token.{Token}
 use Rattle.grammar.specs.Tree.{Tree, Forest, nil, ◌▸◌, size, depth}
 use Rattle.grammar.specs.Claim as claim

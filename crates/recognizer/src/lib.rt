@@ -1,4 +1,5 @@
 // The reader: one grammar in code, as a table of what is left to read of a record, and the walk over it.
+#![tactic(auto)]
 
 pub mod begin;
 pub mod found;

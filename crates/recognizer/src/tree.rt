@@ -103,7 +103,7 @@ fn record<S: Sink>(
     requires within { start.end ≤ length tokens.now }
     requires few { start.size ≤ start.end }
     requires nests { start.depth ≤ start.size }
-    ensures { MatchResult result (λ f. Made tokens.now allow_in (do_of begun) start rows sink.old sink.new f) (λ e. NotMade tokens.now allow_in (do_of begun) start inner e) }
+    ensures { MatchResult result (λ f. Made tokens.now allow_in (do_of begun) start S.rows sink.old sink.new f) (λ e. NotMade tokens.now allow_in (do_of begun) start inner e) }
 {
     let mut rest = begun;
     let mut parts = start;
@@ -149,7 +149,7 @@ fn tree<S: Sink>(
     sink: &mut S,
 ) -> Result<Found, Unread>
     requires { at ≤ length tokens.now }
-    ensures { MatchResult result (λ f. Parsed tokens.now at allow_in (goal_of goal) rows sink.old sink.new f) (λ e. NotParsed tokens.now at allow_in (goal_of goal) room e) }
+    ensures { MatchResult result (λ f. Parsed tokens.now at allow_in (goal_of goal) S.rows sink.old sink.new f) (λ e. NotParsed tokens.now at allow_in (goal_of goal) room e) }
 {
     if room == 0 {
         return Err(Unread::TooDeep);
@@ -189,7 +189,7 @@ fn refused(len: usize, why: Unread) -> Unread
 /// The script that the tokens derive. It goes into the sink. What stands where is decided by the next token alone, so the
 /// tree is read first, and whether each child may stand where it stands is asked at the end.
 pub fn script<S: Sink>(tokens: &[Token], sink: &mut S) -> Result<Found, Unread>
-    ensures { MatchResult result (λ f. Scripted tokens.now rows sink.old sink.new f) (λ e. NotScript tokens.now e) }
+    ensures { MatchResult result (λ f. Scripted tokens.now S.rows sink.old sink.new f) (λ e. NotScript tokens.now e) }
 {
     let start = start_at(tokens, 0, sink.none());
     let found = match record(

@@ -2,4 +2,4 @@ use Rattle.std.proofs.Common.{Bool, ◌&&◌, refl, ap}
 use Rattle.recognizer.proofs.found.complete.Goals as goal
 
 pub returns : goal.returns
-returns c = record { form = c.traits-of.ensures.form; attributes = c.traits-of.ensures.attributes; fit = λ cs s. ap (λ (b : Bool). b && c.args.parts.good) (c.children-fit.ensures cs s); lo = refl; hi = refl; end = refl; slot = refl; records = refl; nests = refl }
+returns c = record { form = c.traits_of.ensures.form; attributes = c.traits_of.ensures.attributes; fit = λ cs s. ap (λ (b : Bool). b && c.args.parts.good) (c.children_fit.ensures cs s); lo = refl; hi = refl; end = refl; slot = refl; records = refl; nests = refl }

@@ -1,4 +1,4 @@
-use Rattle.std.proofs.Common.{◌≡◌, sym, refl, ap, drop_of_length-le, drop-cons}
+use Rattle.std.proofs.Common.{sym, ap, drop_of_length-le, drop-cons}
 use Rattle.token.specs.declared.Code.TheVariants.{Name}
 use Rattle.grammar.specs.Derives.{lo_of}
 use Rattle.recognizer.specs.Table.{view}

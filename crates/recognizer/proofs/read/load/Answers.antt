@@ -1,4 +1,3 @@
-use Rattle.std.proofs.Common.{refl}
 use Rattle.recognizer.proofs.Passes.{root_is_slot}
 use Rattle.recognizer.proofs.read.load.Goals as goal
 

@@ -10,13 +10,13 @@ abbrev pub decreases-tree : goal.decreases-tree
 decreases-tree g l = 2 * l.room
 
 abbrev pub invariant-record-loop-form : goal.invariant-record-loop-form
-invariant-record-loop-form g l = (l.initial.parts.size ≤ l.initial.parts.end) × Carried l.tokens l.allow-in (do_of l.initial.rest) l.initial.parts g.S.Sink.rows l.initial.sink l.sink (do_of l.rest) l.parts
+invariant-record-loop-form g l = (l.initial.parts.size ≤ l.initial.parts.end) × Carried l.tokens l.allow_in (do_of l.initial.rest) l.initial.parts g.S.Sink.rows l.initial.sink l.sink (do_of l.rest) l.parts
 
 abbrev pub decreases-record-loop-form : goal.decreases-record-loop-form
 decreases-record-loop-form g l = length l.tokens - l.parts.end
 
 abbrev pub invariant-tree-loop-goal : goal.invariant-tree-loop-goal
-invariant-tree-loop-goal g l = Climbed l.tokens l.at l.allow-in (goal_of l.goal) g.S.Sink.rows l.initial.sink l.sink l.initial.found l.found
+invariant-tree-loop-goal g l = Climbed l.tokens l.at l.allow_in (goal_of l.goal) g.S.Sink.rows l.initial.sink l.sink l.initial.found l.found
 
 abbrev pub decreases-tree-loop-goal : goal.decreases-tree-loop-goal
 decreases-tree-loop-goal g l = length l.tokens - l.found.end

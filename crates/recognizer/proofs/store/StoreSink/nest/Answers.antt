@@ -1,4 +1,4 @@
-use Rattle.std.proofs.Common.{◌≡◌, ◌∙◌}
+use Rattle.std.proofs.Common.{◌∙◌}
 use Rattle.recognizer.proofs.store.StoreSink.nest.Goals as goal
 
 pub returns : goal.returns

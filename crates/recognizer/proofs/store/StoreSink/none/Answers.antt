@@ -1,4 +1,4 @@
-use Rattle.std.proofs.Common.{◌≡◌, refl}
+use Rattle.std.proofs.Common.{refl}
 use Rattle.chain.proofs.Laws.{chain_once}
 use Rattle.records.proofs.Rows.{row_none}
 use Rattle.recognizer.proofs.store.StoreSink.none.Goals as goal
