@@ -1,4 +1,6 @@
 // How long moves take in each store. What was moved goes to standard output, the times to standard error.
+#![tactic(auto)]
+
 mod fill;
 mod work;
 

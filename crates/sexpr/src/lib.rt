@@ -1,4 +1,6 @@
 // A tree of a pool as text: an S-expression with the place of each record.
+#![tactic(auto)]
+
 mod names;
 mod tree;
 
