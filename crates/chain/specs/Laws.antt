@@ -1,6 +1,6 @@
 -- What is true of every chain, whatever the records hold.
 --
---   ChainLaws    a head has one chain; no slot is on it twice; it is no longer than there are slots
+--   ChainLaws     a head has one chain; no slot is on it twice; it is no longer than there are slots
 --
 -- Assumes nothing.
 use Rattle.std.specs.Prelude.{◌≡◌, ℕ, ◌≤◌, List, length}

@@ -6,7 +6,7 @@
 --   After x b f n g m   from the lists f with room for n comments the call x led to the lists g with room for m, as the contracts of
 --                   the stores have it; b says whether it was accepted (a move always is)
 --   Played xs bs ..     the same of a list of calls, with the list of their answers
---   SameMeaning    two stores with equal lists and equal room give equal answers to equal calls, and have equal lists and equal room
+--   SameMeaning     two stores with equal lists and equal room give equal answers to equal calls, and have equal lists and equal room
 --                   afterwards, whatever they are made of
 --
 -- Assumes nothing.

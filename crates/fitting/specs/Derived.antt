@@ -1,12 +1,12 @@
 -- What a tree is, from its root's form and the summary of its children.
 --
---   open_of f        which children of a record of the form f are in the open, so that an `in` in them is one of the record
+--   open_of f       which children of a record of the form f are in the open, so that an `in` in them is one of the record
 --   bare o cs       an `in` stands in the open in one of those of cs
---   opening_of f     what a record of the form f begins with: a token, or its first child
+--   opening_of f    what a record of the form f begins with: a token, or its first child
 --   begins o cs     what it begins with, over children with the attributes cs
---   tail_of f        whether an `else` behind a record of the form f could be its own
+--   tail_of f       whether an `else` behind a record of the form f could be its own
 --   dangling t cs   whether it would be
---   whole_of f       whether a record of the form f is a single one, whatever its children
+--   whole_of f      whether a record of the form f is a single one, whatever its children
 --
 -- Assumes nothing.
 use Rattle.std.specs.Prelude.{Bool, true, false, cond, not, ◌&&◌, ◌||◌, List, eqb, leb}

@@ -1,6 +1,6 @@
 -- What each form asks of its children, site by site.
 --
---   fit_sites ss cs        there are as many children as sites in ss, and each may stand at its site
+--   fit_sites ss cs       there are as many children as sites in ss, and each may stand at its site
 --   heads s cs            the first of cs may stand at the site s, and each other where a value does
 --   ends s cs             the last of cs may stand at the site s, and each other is a plain Name
 --   asks f cs             children with the attributes cs are those that the form f asks for

@@ -5,7 +5,7 @@
 --   more n                    one more than n, up to five
 --   first second third fourth last    the attributes of single children, or absent
 --   every s cs                each of cs may stand at the site s
---   any_bare cs                an `in` stands in the open in one of cs
+--   any_bare cs               an `in` stands in the open in one of cs
 --   next d c, declared d cs   how far the Names and values of a Var have come, behind one more child, behind all of cs
 --   Sums cs k                 k is the summary of children with the attributes cs
 --

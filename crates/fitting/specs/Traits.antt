@@ -1,8 +1,8 @@
 -- What the code keeps of a tree, as the grammar's attributes; and the code's sites, as those of the grammar.
 --
---   begin_of b     what a tree begins with
---   traits_of t    the attributes that the traits t stand for
---   site_of s      the site that s stands for
+--   begin_of b    what a tree begins with
+--   traits_of t   the attributes that the traits t stand for
+--   site_of s     the site that s stands for
 --
 -- Assumes nothing.
 use Rattle.kinds.specs.Levels.{standing}

@@ -1,14 +1,14 @@
 -- What is proved of the grammar.
 --
 --   Unambiguous       no token list has two readings
---   ReadDerives      the reader accepts exactly the token lists that have a reading, and gives it
---   DerivedGood      what is derived is a good script, and writing it gives the codes of its tokens back
+--   ReadDerives       the reader accepts exactly the token lists that have a reading, and gives it
+--   DerivedGood       what is derived is a good script, and writing it gives the codes of its tokens back
 --   PartGood, PartDerives    the same two for every part of a script, at its site, with what follows it
---   PartsPlaced      the place of every derived part runs from its first token's lo to its last token's hi
---   ScriptsPlaced    and so for a script; one with no tokens has the place 0 to 0
---   SizesBounded     a reading has at most one record more than tokens, and nests at most as deep as it has records
---   GoodDerives      tokens that are spelled as a good script is written have a reading, with the script's shape
---   FoundWritten     what `parse` finds for a goal, good or not, is written with exactly the tokens that it ate
+--   PartsPlaced       the place of every derived part runs from its first token's lo to its last token's hi
+--   ScriptsPlaced     and so for a script; one with no tokens has the place 0 to 0
+--   SizesBounded      a reading has at most one record more than tokens, and nests at most as deep as it has records
+--   GoodDerives       tokens that are spelled as a good script is written have a reading, with the script's shape
+--   FoundWritten      what `parse` finds for a goal, good or not, is written with exactly the tokens that it ate
 --
 -- Assumes nothing.
 use Rattle.std.specs.Prelude.{◌≡◌, ℕ, ◌+◌, ◌≤◌, ◌<◌, List, [], ◌∷◌, ◌++◌, Bool, true, false, ◌↔◌, T, length}

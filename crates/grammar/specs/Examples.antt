@@ -1,8 +1,8 @@
 -- Worked examples from the edges of the grammar: a text, its tokens (each given the place 10n + 1 to 10n + 4, where n counts from 0), and the tree
 -- that they read as, or none.
 --
---   ExamplesHold     the reader gives each of them as written here
---   CoresHold        and so for the core forms of what is read
+--   ExamplesHold      the reader gives each of them as written here
+--   CoresHold         and so for the core forms of what is read
 --
 -- Assumes nothing.
 use Rattle.std.specs.Prelude.{ℕ, ◌+◌, ◌*◌, ◌≡◌, true, false, List, [], ◌∷◌}

@@ -5,8 +5,8 @@
 --   layout f cs       what a record of the form f writes, whose children have the attributes cs. Few forms look at cs: those
 --                     with a list of children look how long it is, If, Return and Yield whether the last child is there, Var which Names
 --                     have values, For and ForIn whether their first child is a Var
---   attr_of f cs       the attributes of a tree, from its root's form and its children's attributes
---   fit_kids l cs      there are as many children as the layout l has sites, and each may stand at its site
+--   attr_of f cs      the attributes of a tree, from its root's form and its children's attributes
+--   fit_kids l cs     there are as many children as the layout l has sites, and each may stand at its site
 --   Good t            in every record of t the children fit
 --   wr h t k          what t writes (h: in a head), and then k
 --

@@ -3,10 +3,10 @@
 --   Step t u         one of the rules, once, somewhere in t, gives u
 --   Comes t n        some steps lead from t to n
 --   Full t           every sequence in t has an element
---   GoodFull        every good tree is full
---   CoreLaw         from a tree without the places that do not count, some steps lead to its core form; wherever steps lead and no more can be made,
+--   GoodFull         every good tree is full
+--   CoreLaw          from a tree without the places that do not count, some steps lead to its core form; wherever steps lead and no more can be made,
 --                    that is the core form; and in the core form none can be made
---   StepsShrink     each step makes the tree smaller, so there is an end to them
+--   StepsShrink      each step makes the tree smaller, so there is an end to them
 --
 -- Assumes nothing.
 use Rattle.std.specs.Prelude.{◌≡◌, ◌<◌, Bool, true, false, T}

@@ -1,7 +1,7 @@
 -- The kinds and their ranks, and the kind of a form.
 --
 --   rank k       the place of the kind k in the list of kinds: 0 for a free record, 1 to 35 for the others
---   kind_of f     the kind of a record of the form f
+--   kind_of f    the kind of a record of the form f
 --
 -- Assumes nothing.
 use Rattle.std.specs.Prelude.{ℕ}

@@ -1,14 +1,14 @@
 -- How tightly an expression holds together, and what fits each slot.
 --
---   binary_level o       the level of a binary operator, 3 to 13
---   form_level f         the level of a form, 0 to 16; a form that is no expression is of level 16, and asks nothing
+--   binary_level o      the level of a binary operator, 3 to 13
+--   form_level f        the level of a form, 0 to 16; a form that is no expression is of level 16, and asks nothing
 --   Standing            all that a slot can ask of an expression: its level, its class, whether it is a target, a plain
 --                       Name, or a key
 --   standing f c t      the standing of an expression of the form f, whose first child is (c) of the class C, (t) a target
 --   level s             the level of a standing
 --   is_n is_c is_o is_m     the four classes of level 16: `new` without a list; a call or a member of one; a link of an
 --                       optional chain; all others
---   is_target s          a Name, a Member, or a pair round a target
+--   is_target s         a Name, a Member, or a pair round a target
 --   fits p s            an expression of the standing s may stand bare in the slot p
 --   left_slot o, right_slot o    the slots of the operands of a binary operator
 --

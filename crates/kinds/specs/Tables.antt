@@ -1,9 +1,9 @@
 -- The tables that the code is proved equal to, and the standings that the grammar is stated with, say the same.
 --
---   class_rank c         a number for each class, and 0 for none
+--   class_rank c        a number for each class, and 0 for none
 --   Agree f c t         of a form f whose first child is (c) of the class C, (t) a target: its level, its class and whether it is a target are
 --                       those of its standing
---   TablesAgree        so for every operator and every form. Forms that are no expressions agree too; nothing asks them
+--   TablesAgree         so for every operator and every form. Forms that are no expressions agree too; nothing asks them
 --
 -- Assumes nothing.
 use Rattle.std.specs.Prelude.{◌≡◌, ℕ, Bool, Some, None, Option, nat_eq}

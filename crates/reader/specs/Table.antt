@@ -2,8 +2,8 @@
 --
 --   view ts i     the tokens of ts from the one at i on
 --   goal_of mode_of do_of     the goal, the mode, and what is left to do, that a value of the code stands for
---   to_do          the next thing to do
---   turn_of        what a token does behind an expression
+--   to_do         the next thing to do
+--   turn_of       what a token does behind an expression
 --
 -- Assumes nothing.
 use Rattle.std.specs.Prelude.{◌≡◌, ℕ, ◌+◌, ◌<◌, Bool, true, false, T, List, [], ◌∷◌, length, drop, Some, None, Option}

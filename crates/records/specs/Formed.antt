@@ -5,7 +5,7 @@
 --   rooted m f     a record of the form f can be the root of a tree with the mark m: a loaded and a fixed tree are scripts, a
 --                  piece is an expression or a statement
 --   Sound m t      t has a root for its mark, is formed, and nests at most 512 deep
---   DerivedSound  a derived tree that nests at most 512 deep is sound as a loaded tree
+--   DerivedSound   a derived tree that nests at most 512 deep is sound as a loaded tree
 --
 -- Assumes nothing.
 use Rattle.std.specs.Prelude.{◌≤◌, Bool, true, false, ◌&&◌, ◌||◌, T, List, ◌==◌}

@@ -1,7 +1,7 @@
 -- Records and slots.
 --
---   mark_number m   the number of a mark: 1, 2, 3 for the root of a loaded tree, a fixed tree, a piece; 0 else
---   head_of r       what a record says besides its links and its mark: its form and its place
+--   mark_number m  the number of a mark: 1, 2, 3 for the root of a loaded tree, a fixed tree, a piece; 0 else
+--   head_of r      what a record says besides its links and its mark: its form and its place
 --   vacant n       a free record that leads to n
 --   at s k         the record of slot k; slots count from 1
 --   links s        the links of the records

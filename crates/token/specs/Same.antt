@@ -1,8 +1,8 @@
 -- When two codes are the same, as a test that computes.
 --
---   word_rank w          the place of w in the list of words, from 0; so for the punctuators and both sorts of operators
---   same_code a b        whether a and b are one code: of one sort, and of one rank within it
---   DecidesEquality    same_code is true of a code and itself, and of no two different ones
+--   word_rank w         the place of w in the list of words, from 0; so for the punctuators and both sorts of operators
+--   same_code a b       whether a and b are one code: of one sort, and of one rank within it
+--   DecidesEquality     same_code is true of a code and itself, and of no two different ones
 --
 -- Assumes nothing.
 use Rattle.std.specs.Prelude.{ℕ, ◌≡◌, Bool, ◌&&◌, T, eqb}
