@@ -1,7 +1,7 @@
 // Reads a tree: children before their parent, siblings and what follows an expression in loops.
 
 ghost use Rattle.std.specs.Prelude.{◌≡◌, ◌≤◌, length, MatchResult};
-ghost use Rattle.grammar.specs.Parser.{takes, frame, mode as modeIn};
+ghost use Rattle.grammar.specs.Parser.{takes, frame, mode as mode_in};
 ghost use Rattle.reader.specs.Table.{do_of, goal_of, mode_of, turn_of};
 ghost use Rattle.reader.specs.Reads.{standing_of, Parsed, NotParsed, Made, NotMade, Onward, Eaten};
 ghost use Rattle.reader.specs.Width.{Scripted, NotScript, refused_of};
@@ -30,7 +30,7 @@ pub enum Unread {
 
 /// Whether an `in` may stand in the open in a child.
 fn allowed(mode: Mode, allow_in: bool) -> bool
-    ensures { result ≡ modeIn (mode_of mode) allow_in }
+    ensures { result ≡ mode_in (mode_of mode) allow_in }
 {
     match mode {
         Mode::Same => allow_in,
