@@ -8,3 +8,4 @@ pub mod Exits
 pub mod Plain
 pub mod Width
 pub mod Scripts
+pub mod Operands

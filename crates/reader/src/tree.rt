@@ -29,7 +29,7 @@ pub enum Unread {
 }
 
 /// Whether an `in` may stand in the open in a child.
-fn allowed(mode: Mode, allow_in: bool) -> bool
+pub fn allowed(mode: Mode, allow_in: bool) -> bool
     ensures { result ≡ mode_in (mode_of mode) allow_in }
 {
     match mode {
@@ -175,7 +175,7 @@ fn tree<S: Sink>(
 }
 
 /// Why a list of `len` tokens is refused, when its script is refused so: one of fewer than 500 tokens is never too deep.
-fn refused(len: usize, why: Unread) -> Unread
+pub fn refused(len: usize, why: Unread) -> Unread
     ensures { result ≡ refused_of len why }
 {
     match why {

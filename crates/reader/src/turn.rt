@@ -9,7 +9,7 @@ ghost use Rattle.reader.specs.Table.{view, turn_of, do_of, Turns, Grows};
 use crate::glance::peek;
 use crate::goal::{Goal, Mode};
 use crate::rest::{List, Rest};
-use kinds::{BinaryOperator, Entry, Form, Key, Link, Side, Slot, UpdateOperator};
+use kinds::{BinaryOperator, Entry, Form, Key, Link, Side, Slot, UpdateOperator, level};
 use token::{AssignOperator, Code, Operator, Punctuator, Token, Word};
 
 /// What a token does behind an expression.
@@ -165,65 +165,18 @@ pub fn update_code(operator: UpdateOperator) -> Code
 }
 
 /// The slot of the left operand.
+#[tactic(auto, using(crate::proofs::Operands::left_first))]
 pub fn left_slot(operator: BinaryOperator) -> Slot
     ensures { result ≡ first_slot (binary_frame operator) }
 {
-    match operator {
-        BinaryOperator::Coalesce => Slot::Coalesce,
-        BinaryOperator::Or => Slot::LogicalOr,
-        BinaryOperator::And => Slot::LogicalAnd,
-        BinaryOperator::BitOr => Slot::BitwiseOr,
-        BinaryOperator::BitXor => Slot::BitwiseXor,
-        BinaryOperator::BitAnd => Slot::BitwiseAnd,
-        BinaryOperator::Equal
-        | BinaryOperator::NotEqual
-        | BinaryOperator::StrictEqual
-        | BinaryOperator::StrictNotEqual => Slot::Equality,
-        BinaryOperator::Less
-        | BinaryOperator::LessOrEqual
-        | BinaryOperator::Greater
-        | BinaryOperator::GreaterOrEqual
-        | BinaryOperator::In
-        | BinaryOperator::Instanceof => Slot::Relational,
-        BinaryOperator::LeftShift
-        | BinaryOperator::RightShift
-        | BinaryOperator::UnsignedRightShift => Slot::Shift,
-        BinaryOperator::Add | BinaryOperator::Subtract => Slot::Additive,
-        BinaryOperator::Multiply | BinaryOperator::Divide | BinaryOperator::Remainder =>
-            Slot::Multiplicative,
-        BinaryOperator::Exponent => Slot::Update,
-    }
+    level::left_slot(operator)
 }
 
 /// The slot of the right operand.
 pub fn right_slot(operator: BinaryOperator) -> Slot
     ensures { result ≡ right_slot operator }
 {
-    match operator {
-        BinaryOperator::Or => Slot::LogicalAnd,
-        BinaryOperator::Coalesce | BinaryOperator::And => Slot::BitwiseOr,
-        BinaryOperator::BitOr => Slot::BitwiseXor,
-        BinaryOperator::BitXor => Slot::BitwiseAnd,
-        BinaryOperator::BitAnd => Slot::Equality,
-        BinaryOperator::Equal
-        | BinaryOperator::NotEqual
-        | BinaryOperator::StrictEqual
-        | BinaryOperator::StrictNotEqual => Slot::Relational,
-        BinaryOperator::Less
-        | BinaryOperator::LessOrEqual
-        | BinaryOperator::Greater
-        | BinaryOperator::GreaterOrEqual
-        | BinaryOperator::In
-        | BinaryOperator::Instanceof => Slot::Shift,
-        BinaryOperator::LeftShift
-        | BinaryOperator::RightShift
-        | BinaryOperator::UnsignedRightShift => Slot::Additive,
-        BinaryOperator::Add | BinaryOperator::Subtract => Slot::Multiplicative,
-        BinaryOperator::Multiply
-        | BinaryOperator::Divide
-        | BinaryOperator::Remainder
-        | BinaryOperator::Exponent => Slot::Exponentiation,
-    }
+    level::right_slot(operator)
 }
 
 /// The slot that the expression before the token then stands in.

@@ -11,16 +11,17 @@ use Rattle.grammar.specs.Layout.{layout, attr_of, attr, attrs, fit_kids, good, g
 use Rattle.fitting.specs.Summary.{Sums}
 use Rattle.fitting.specs.declared.summary.Summary.{Summary}
 use Rattle.grammar.specs.Parser.{Goal, Mode, mode, Do, fail, fin, eat, sub, settle, starts, Ran, ran, bind, exec, parse, perform}
-use Rattle.recognizer.specs.Table.{view}
-use Rattle.recognizer.specs.Reads.{Joined, Completed, Behind, own, Shape, Holds, Shaped, Bad, Parsed, NotParsed, Made, NotMade, graft, Carried}
-use Rattle.recognizer.specs.Rows.{Nested, Pushed}
-use Rattle.recognizer.specs.declared.sink.Row.{Row}
+use Rattle.reader.specs.Table.{view}
+use Rattle.reader.specs.Reads.{own, Bad, NotParsed, graft}
+use Rattle.recognizer.specs.Reads.{Joined, Completed, Behind, Shape, Holds, Shaped, Parsed, Made, NotMade, Carried}
+use Rattle.reader.specs.Rows.{Nested, Pushed}
+use Rattle.reader.specs.declared.sink.Row.{Row}
 use Rattle.recognizer.specs.declared.found.Found.{Found}
 use Rattle.recognizer.specs.declared.found.Parts.{Parts}
-use Rattle.recognizer.specs.declared.tree.Unread.{Unread}
-use Rattle.recognizer.specs.declared.tree.Unread.TheVariants.{NoDerivation, TooDeep}
-use Rattle.recognizer.proofs.Fuel.{raise_r, bind_inv}
-use Rattle.recognizer.proofs.Eats.{own_settle, own_one}
+use Rattle.reader.specs.declared.tree.Unread.{Unread}
+use Rattle.reader.specs.declared.tree.Unread.TheVariants.{NoDerivation, TooDeep}
+use Rattle.reader.proofs.Fuel.{raise_r, bind_inv}
+use Rattle.reader.proofs.Eats.{own_settle, own_one}
 
 -- Forests.
 pub join_nil : (us : Forest) → us ⊕ nil ≡ us

@@ -14,18 +14,20 @@ use Rattle.grammar.specs.Parser.{stm, scr, free, sub, stms, fin, at_stop, Ran, r
 use Rattle.grammar.proofs.Tests.{and_l}
 use Rattle.grammar.proofs.Exact.{read_derives, good_derives, derived_good}
 use Rattle.grammar.proofs.Written.{found_written}
-use Rattle.recognizer.specs.Table.{view}
-use Rattle.recognizer.specs.Reads.{Reads, Shape, Started, Made, NotMade}
-use Rattle.recognizer.specs.Width.{Scripted, NotScript, refused_of}
+use Rattle.reader.specs.Table.{view}
+use Rattle.reader.specs.Reads.{Reads}
+use Rattle.recognizer.specs.Reads.{Shape, Started, Made, NotMade}
+use Rattle.reader.specs.Width.{NotScript, refused_of}
+use Rattle.recognizer.specs.Width.{Scripted}
 use Rattle.recognizer.specs.declared.found.Found.{Found}
 use Rattle.recognizer.specs.declared.found.Parts.{Parts}
-use Rattle.recognizer.specs.declared.tree.Unread.{Unread}
-use Rattle.recognizer.specs.declared.tree.Unread.TheVariants.{NoDerivation, TooDeep}
-use Rattle.recognizer.proofs.Fuel.{raise_p, bind_inv, some_one}
-use Rattle.recognizer.proofs.Width.{width, depths_sizes}
+use Rattle.reader.specs.declared.tree.Unread.{Unread}
+use Rattle.reader.specs.declared.tree.Unread.TheVariants.{NoDerivation, TooDeep}
+use Rattle.reader.proofs.Fuel.{raise_p, bind_inv, some_one}
+use Rattle.reader.proofs.Width.{width, depths_sizes}
 use Rattle.recognizer.proofs.Trees.{shape_node, holds_nil, row_at}
-use Rattle.recognizer.specs.Rows.{single}
-use Rattle.recognizer.specs.declared.sink.Row.{Row}
+use Rattle.reader.specs.Rows.{single}
+use Rattle.reader.specs.declared.sink.Row.{Row}
 
 -- The reading of a script is what the grammar's reader finds.
 cond_some : {A : Type 0} (b : Bool) (x y : A) → cond b (some x) none ≡ some y → T b × (x ≡ y)

@@ -9,16 +9,17 @@ use Rattle.grammar.specs.Layout.{attr, attrs, good, goods, sort_of}
 use Rattle.fitting.specs.Summary.{Sums}
 use Rattle.grammar.specs.Derives.{lo_of}
 use Rattle.grammar.specs.Parser.{Goal, Do, prefix, After, frame_do, frame, next, goes_on, Ran, ran, bind, begun, grown_on, parse, loop, perform}
-use Rattle.recognizer.specs.Table.{view, Turns}
-use Rattle.recognizer.specs.Reads.{standing_of, Started, Alone, own, eats, Holds, Shape, Shaped, Bad, Parsed, NotParsed, Made, NotMade, Reached, Climbed, Onward}
-use Rattle.recognizer.specs.Rows.{single}
-use Rattle.recognizer.specs.declared.sink.Row.{Row}
+use Rattle.reader.specs.Table.{view, Turns}
+use Rattle.reader.specs.Reads.{own, eats, Bad, NotParsed}
+use Rattle.recognizer.specs.Reads.{standing_of, Started, Alone, Holds, Shape, Shaped, Parsed, Made, NotMade, Reached, Climbed, Onward}
+use Rattle.reader.specs.Rows.{single}
+use Rattle.reader.specs.declared.sink.Row.{Row}
 use Rattle.recognizer.specs.declared.found.Found.{Found}
 use Rattle.recognizer.specs.declared.found.Parts.{Parts}
-use Rattle.recognizer.specs.declared.tree.Unread.{Unread}
-use Rattle.recognizer.specs.declared.tree.Unread.TheVariants.{NoDerivation, TooDeep}
-use Rattle.recognizer.proofs.Fuel.{raise_p, bind_inv, grow}
-use Rattle.recognizer.proofs.Eats.{own_true, frame_eats}
+use Rattle.reader.specs.declared.tree.Unread.{Unread}
+use Rattle.reader.specs.declared.tree.Unread.TheVariants.{NoDerivation, TooDeep}
+use Rattle.reader.proofs.Fuel.{raise_p, bind_inv, grow}
+use Rattle.reader.proofs.Eats.{own_true, frame_eats}
 
 bad_up : (e : Unread) (i room d c : ℕ) → 0 < room → i ≡ room - 1 → Bad e i d → d + 1 ≤ c → Bad e room c
 bad_up NoDerivation i room d c p q h le = h

@@ -8,8 +8,8 @@
 --   Carried Climbed       what holds in their loops
 --
 -- Assumes nothing.
-use Rattle.std.specs.Prelude.{◌≡◌, ℕ, ◌+◌, ◌<◌, ◌≤◌, max, Bool, true, false, cond, ◌&&◌, List, [], ◌∷◌, ◌++◌, length, Some, None, Option as OptionR}
-use Rattle.std.proofs.Math.Option.{Option, none, some}
+use Rattle.std.specs.Prelude.{◌≡◌, ℕ, ◌+◌, ◌<◌, ◌≤◌, max, Bool, true, false, ◌&&◌, List, [], ◌∷◌, ◌++◌, length, Some, None, Option as OptionR}
+use Rattle.std.proofs.Math.Option.{some}
 use Rattle.token.specs.declared.Token.{Token}
 use Rattle.token.specs.declared.Code.{Code}
 use Rattle.token.specs.Same.{same_code}
@@ -19,16 +19,16 @@ use Rattle.grammar.specs.Site.{Attr}
 use Rattle.grammar.specs.Tree.{head, head_of, Tree, Forest, node, nil, ◌▸◌, ◌⊕◌, size, sizes, depth, depths}
 use Rattle.grammar.specs.Layout.{layout, attr_of, attr, attrs, fit_kids, good, goods, sort_of}
 use Rattle.grammar.specs.Derives.{lo_of}
-use Rattle.grammar.specs.Parser.{Goal, Do, fail, fin, eat, sub, peek, more, items, stms, operand, names, behind, Ran, ran, parse, loop, perform, goes_on, frame, next, starts}
+use Rattle.grammar.specs.Parser.{Goal, Do, Ran, ran, parse, loop, perform, goes_on, frame, next, starts}
 use Rattle.fitting.specs.Traits.{traits_of}
 use Rattle.fitting.specs.Summary.{Sums}
-use Rattle.recognizer.specs.Table.{view}
-use Rattle.recognizer.specs.Rows.{single}
-use Rattle.recognizer.specs.declared.sink.Row.{Row}
+use Rattle.reader.specs.Table.{view}
+use Rattle.reader.specs.Rows.{single}
+use Rattle.reader.specs.declared.sink.Row.{Row}
+use Rattle.reader.specs.Reads.{own, Reads, Runs, graft, Bad}
 use Rattle.recognizer.specs.declared.found.Found.{Found}
 use Rattle.recognizer.specs.declared.found.Parts.{Parts}
-use Rattle.recognizer.specs.declared.tree.Unread.{Unread}
-use Rattle.recognizer.specs.declared.tree.Unread.TheVariants.{NoDerivation, TooDeep}
+use Rattle.reader.specs.declared.tree.Unread.{Unread}
 
 abbrev pub standing_of : Found → Standing
 standing_of f = (traits_of f.traits).standing
@@ -74,29 +74,6 @@ pub record Completed (p : Parts) (g : Form) (n : ℕ) (f : Found) : Type 0 where
   pub records : f.below ≡ p.size
   pub nests : f.under ≡ p.depth
 
--- Does every run of s eat a token of its own?
-abbrev pub eats : Do → Bool
-eats fail = true
-eats (fin f) = false
-eats (eat c s) = true
-eats (sub m q s) = eats s
-eats (peek c s t) = eats s && eats t
-eats (more m q s) = eats s
-eats (items q c s) = eats s
-eats (stms s) = eats s
-eats (operand s t) = eats s && eats t
-eats (names s) = eats s
-eats (behind s) = eats s
-
-abbrev pub own : Do → ℕ
-own s = cond (eats s) 1 0
-
-abbrev pub Reads : Bool → Goal → List Token → Tree → List Token → Type 0
-Reads b q ks t r = (k : ℕ) × ((m : ℕ) → k ≤ m → parse m b q ks ≡ some (t, r))
-
-abbrev pub Runs : Bool → Do → ℕ → List Token → Ran → Type 0
-Runs b s h ks y = (k : ℕ) × ((m : ℕ) → k ≤ m → perform m b s h ks ≡ some y)
-
 pub record Shape (t : Tree) (f : Found) : Type 0 where
   pub heads : head_of t ≡ head f.traits.form f.lo f.hi
   pub attributes : attr t ≡ traits_of f.traits
@@ -116,18 +93,11 @@ pub record Shaped (us : Forest) (f : Found) : Type 0 where
   pub records : sizes us ≡ f.below
   pub nests : depths us ≡ f.under
 
-abbrev pub Bad : Unread → ℕ → ℕ → Type 0
-Bad NoDerivation room d = ⊥
-Bad TooDeep room d = room < d
-
 pub record Parsed {K : Type 0} (ts : List Token) (i : ℕ) (b : Bool) (q : Goal) (R : K → K → Row → Forest → Type 0) (e x : K) (f : Found) : Type 0 where
   pub few : i + f.below < f.end
   pub nests : f.under ≤ f.below
   pub within : f.end ≤ length ts
   pub tree : (t : Tree) × Shape t f × Reads b q (view ts i) t (view ts f.end) × R x e (single f.slot) (t ▸ nil)
-
-abbrev pub NotParsed : List Token → ℕ → Bool → Goal → ℕ → Unread → Type 0
-NotParsed ts i b q room e = (n : ℕ) (t : Tree) (r : List Token) → parse n b q (view ts i) ≡ some (t, r) → Bad e room (depth t)
 
 pub record Made {K : Type 0} (ts : List Token) (b : Bool) (s : Do) (p : Parts) (R : K → K → Row → Forest → Type 0) (e x : K) (f : Found) : Type 0 where
   pub few : f.below + p.end + own s ≤ p.size + f.end
@@ -139,10 +109,6 @@ pub record Made {K : Type 0} (ts : List Token) (b : Bool) (s : Do) (p : Parts) (
 
 abbrev pub NotMade : List Token → Bool → Do → Parts → ℕ → Unread → Type 0
 NotMade ts b s p room e = (n : ℕ) (y : Ran) → perform n b s p.hi (view ts p.end) ≡ some y → Bad e room (depths y.kids)
-
-abbrev pub graft : Forest → Option Ran → Option Ran
-graft us none = none
-graft us (some y) = some (ran y.form (us ⊕ y.kids) y.upto y.left)
 
 -- Since the loop began at p0 with s0 to do: the children us have come, and s is left to do at p.
 pub record Carried {K : Type 0} (ts : List Token) (b : Bool) (s0 : Do) (p0 : Parts) (R : K → K → Row → Forest → Type 0) (e x : K) (s : Do) (p : Parts) : Type 0 where

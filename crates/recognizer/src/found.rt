@@ -2,12 +2,12 @@
 
 ghost use Rattle.std.specs.Prelude.{◌≡◌, ◌+◌, ◌<◌, ◌≤◌, length};
 ghost use Rattle.grammar.specs.Derives.{lo_of};
-ghost use Rattle.recognizer.specs.Table.{view};
+ghost use Rattle.reader.specs.Table.{view};
 ghost use Rattle.recognizer.specs.Reads.{Started, Alone, Joined, Completed};
 
-use crate::sink::Row;
 use fitting::{Summary, Traits, children_fit, traits_of};
 use kinds::Form;
+use reader::sink::Row;
 use token::Token;
 
 /// A tree that was read: what the place where it stands can ask of it, whether in each of its records the children fit, its

@@ -1,19 +1,10 @@
-// The reader: one grammar in code, as a table of what is left to read of a record, and the walk over it.
+// The reader with the test whether each child fits: it recognizes exactly what the grammar derives, and puts it up. What is left to
+// read, and how it goes on, is the reader's table; what is kept of a tree, and the walk that keeps it, stand here.
 #![tactic(auto)]
 
-pub mod begin;
 pub mod found;
-pub mod glance;
-pub mod goal;
 pub mod read;
-pub mod rest;
-pub mod sink;
-pub mod step;
-pub mod store;
 pub mod tree;
-pub mod turn;
 
-pub use goal::{Goal, Mode};
 pub use read::{build, load, recognize};
-pub use rest::Rest;
-pub use tree::Unread;
+pub use reader::tree::Unread;

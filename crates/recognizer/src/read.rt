@@ -3,11 +3,13 @@
 ghost use Rattle.std.specs.Prelude.{ℕ, ◌≤◌, List, MatchResult};
 ghost use Rattle.grammar.specs.Tree.{Tree, depth};
 ghost use Rattle.grammar.specs.Claim.{Reads};
-ghost use Rattle.recognizer.specs.Width.{Recognized, NotScript};
+ghost use Rattle.reader.specs.Width.{NotScript};
+ghost use Rattle.recognizer.specs.Width.{Recognized};
 ghost use Rattle.recognizer.specs.Passes.{Built, Ready, LoadedAt};
 
-use crate::sink::keep_nothing;
-use crate::tree::{Unread, script};
+use crate::tree::script;
+use reader::sink::keep_nothing;
+use reader::tree::Unread;
 use records::{Mark, Store, stamp};
 use token::Token;
 

@@ -2,39 +2,24 @@
 
 ghost use Rattle.std.specs.Prelude.{◌≡◌, ◌≤◌, length, MatchResult};
 ghost use Rattle.grammar.specs.Parser.{takes, frame, mode as mode_in};
-ghost use Rattle.recognizer.specs.Table.{do_of, goal_of, mode_of, turn_of};
-ghost use Rattle.recognizer.specs.Reads.{standing_of, Parsed, NotParsed, Made, NotMade, Onward, Eaten};
-ghost use Rattle.recognizer.specs.Width.{Scripted, NotScript, refused_of};
+ghost use Rattle.reader.specs.Table.{do_of, goal_of, mode_of, turn_of};
+ghost use Rattle.reader.specs.Reads.{NotParsed};
+ghost use Rattle.recognizer.specs.Reads.{standing_of, Parsed, Made, NotMade, Onward, Eaten};
+ghost use Rattle.reader.specs.Width.{NotScript, refused_of};
+ghost use Rattle.recognizer.specs.Width.{Scripted};
 
-use crate::begin::begin;
 use crate::found::{Found, Parts, complete, join, start_at, start_with};
-use crate::glance::token_at;
-use crate::goal::{Goal, Mode};
-use crate::rest::{Body, Rest};
-use crate::sink::Sink;
-use crate::step::{Step, next_step};
-use crate::turn::{Turn, behind, first_slot, grown, stands, turn_at};
 use kinds::Slot;
 use kinds::level::fits;
+use reader::begin::begin;
+use reader::glance::token_at;
+use reader::goal::Goal;
+use reader::rest::{Body, Rest};
+use reader::sink::Sink;
+use reader::step::{Step, next_step};
+use reader::tree::{Unread, allowed, refused};
+use reader::turn::{Turn, behind, first_slot, grown, stands, turn_at};
 use token::{Code, Token};
-
-/// Why nothing was read.
-#[derive(Clone, Copy)]
-pub enum Unread {
-    NoDerivation,
-    TooDeep,
-}
-
-/// Whether an `in` may stand in the open in a child.
-fn allowed(mode: Mode, allow_in: bool) -> bool
-    ensures { result ≡ mode_in (mode_of mode) allow_in }
-{
-    match mode {
-        Mode::Same => allow_in,
-        Mode::Free => true,
-        Mode::Shut => false,
-    }
-}
 
 /// Whether the expression goes on with the token behind it, when it is read for the slot.
 fn taken(left: Found, turn: Turn, slot: Slot, allow_in: bool) -> bool
@@ -168,22 +153,6 @@ fn tree<S: Sink>(
         found = record(tokens, rest, start_with(found), allow_in, room - 1, sink)?;
     }
     Ok(found)
-}
-
-/// Why a list of `len` tokens is refused, when its script is refused so: one of fewer than 500 tokens is never too deep.
-fn refused(len: usize, why: Unread) -> Unread
-    ensures { result ≡ refused_of len why }
-{
-    match why {
-        Unread::NoDerivation => Unread::NoDerivation,
-        Unread::TooDeep => {
-            if len < 500 {
-                Unread::NoDerivation
-            } else {
-                Unread::TooDeep
-            }
-        }
-    }
 }
 
 /// The script that the tokens derive. It goes into the sink. What stands where is decided by the next token alone, so the

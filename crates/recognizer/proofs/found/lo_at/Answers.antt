@@ -1,7 +1,7 @@
 use Rattle.std.proofs.Common.{sym, ap, drop_of_length-le, drop-cons}
 use Rattle.token.specs.declared.Code.TheVariants.{Name}
 use Rattle.grammar.specs.Derives.{lo_of}
-use Rattle.recognizer.specs.Table.{view}
+use Rattle.reader.specs.Table.{view}
 use Rattle.recognizer.proofs.found.lo_at.Goals as goal
 
 pub returns-then-at-tokens : goal.returns-then-at-tokens

@@ -1,7 +1,7 @@
 use Rattle.std.proofs.Common.{◌<◌, sym, refl, arith}
-use Rattle.recognizer.specs.Table.{turn_of}
-use Rattle.recognizer.proofs.Exits.{broke}
-use Rattle.recognizer.proofs.Eats.{prefix_eats}
+use Rattle.reader.specs.Table.{turn_of}
+use Rattle.reader.proofs.Exits.{broke}
+use Rattle.reader.proofs.Eats.{prefix_eats}
 use Rattle.recognizer.proofs.Records.{carried_none, carried_eat, carried_read, made, not_fail, not_eaten, not_read}
 use Rattle.recognizer.proofs.Trees.{no_room, reached_first, refused_first, climbed_none, climbed_next, joined, refused_next, longer, stopped}
 use Rattle.recognizer.proofs.tree.+record_tree.Goals as goal

@@ -1,5 +1,5 @@
 use Rattle.std.proofs.Common.{◌+◌, ◌-◌, ◌*◌, ◌≤◌, length}
-use Rattle.recognizer.specs.Table.{do_of, goal_of}
+use Rattle.reader.specs.Table.{do_of, goal_of}
 use Rattle.recognizer.specs.Reads.{Carried, Climbed}
 use Rattle.recognizer.proofs.tree.+record_tree.Given as goal
 

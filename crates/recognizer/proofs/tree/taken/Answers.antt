@@ -1,7 +1,7 @@
 use Rattle.std.proofs.Common.{sym, ◌∙◌}
-use Rattle.recognizer.specs.Table.{turn_of}
+use Rattle.reader.specs.Table.{turn_of}
 use Rattle.recognizer.specs.Reads.{standing_of}
-use Rattle.recognizer.proofs.Taking.{taken_is}
+use Rattle.reader.proofs.Taking.{taken_is}
 use Rattle.recognizer.proofs.tree.taken.Goals as goal
 
 pub returns : goal.returns
