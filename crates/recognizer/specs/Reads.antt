@@ -1,10 +1,8 @@
--- What the functions of the reader promise, over the reader of the grammar.
+-- What the functions of the recognizer's walk promise, over the reader of the grammar. What does not speak of `Found` or `Parts` is the
+-- reader's: Reads, Runs, Bad, NotParsed, own, graft.
 --
---   Reads b q ks t r      from some bound on, the grammar's reader finds t for the goal q at ks, and r follows
---   Runs b s h ks y       from some bound on, it completes the record of which s is left to do, with y
 --   Shape t f, Holds us p, Shaped us f     what is kept of a tree, of children, of a record over children
---   Bad e room d          what a refusal says of a tree of the depth d, where room is allowed
---   Parsed NotParsed Made NotMade     the promises of the two functions that call each other
+--   Parsed Made NotMade   the promises of the two functions that call each other
 --   Carried Climbed       what holds in their loops
 --
 -- Assumes nothing.
