@@ -30,14 +30,18 @@ pub fn make<T: Link>(slots: &mut [T]) -> u16
     if last == 0 { 0 } else { 1 }
 }
 
+/// The record of a slot; none where the number is no slot.
+pub fn record_at<T>(slots: &[T], slot: u16) -> Option<&T>
+    ensures { MatchOption result (Slot (length slots.now) slot → ⊥) (λ found. Slot (length slots.now) slot × ((d : T) → found.now ≡ slice_index_or slots.now (slot - 1) d)) }
+{
+    slots.get(usize::from(slot).checked_sub(1)?)
+}
+
 /// The link of a slot's record; none where the number is no slot.
 pub fn next_of<T: Link>(slots: &[T], slot: u16) -> Option<u16>
     ensures { MatchOption result (Slot (length slots.now) slot → ⊥) (λ next. Slot (length slots.now) slot × (next ≡ link_at (map T.link slots.now) slot)) }
 {
-    if slot == 0 || slot > last_slot(slots) {
-        return None;
-    }
-    Some(slots[slot as usize - 1].next())
+    Some(record_at(slots, slot)?.next())
 }
 
 /// Takes the first slot off the chain that begins at `head`; none comes from an empty chain. The record itself stays as it
@@ -91,8 +95,6 @@ pub fn count<T: Link>(slots: &[T], head: u16) -> u16
 }
 
 /// A head has one chain, on which no slot stands twice, and which is no longer than there are slots.
-pub fn chain_laws() -> u8
+pub fn chain_laws()
     ensures { ChainLaws }
-{
-    0
-}
+{}
