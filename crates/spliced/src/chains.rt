@@ -5,7 +5,7 @@ ghost use Rattle.chain.specs.Chain.{room, Beyond};
 ghost use Rattle.comments.specs.declared.store.Side.{Side};
 ghost use Rattle.comments.specs.Lists.{added, shifted};
 ghost use Rattle.spliced.specs.Heads.{listed, front_of};
-ghost use Rattle.spliced.specs.Layout.{Idle, Laid};
+ghost use Rattle.spliced.specs.Layout.{Laid};
 
 use crate::heads::{Heads, NoteList};
 use crate::notes::Notes;
@@ -22,10 +22,8 @@ pub(crate) struct Chains<'a> {
 impl<'a> Chains<'a> {
     /// Puts a comment last in the list on a side at an offset.
     pub(crate) fn add(&mut self, side: Side, offset: u32, comment: u32)
-        requires idle { Idle self.old.heads.slots.now self.old.heads.high }
         requires laid { ∥ Laid self.old.notes.slots.now self.old.heads.slots.now self.old.notes.free self.old.heads.free self.old.held ∥₁ }
         requires room { self.old.held < min (room (length self.old.notes.slots.now)) (room (length self.old.heads.slots.now)) }
-        ensures idle { Idle self.new.heads.slots.now self.new.heads.high }
         ensures laid { Laid self.old.notes.slots.now self.old.heads.slots.now self.old.notes.free self.old.heads.free self.old.held
             → Laid self.new.notes.slots.now self.new.heads.slots.now self.new.notes.free self.new.heads.free self.new.held
             × ((at : Side) (k : ℕ) → listed self.new.notes.slots.now self.new.heads.slots.now at k ≡ added (listed self.old.notes.slots.now self.old.heads.slots.now) side offset comment at k) }
@@ -58,9 +56,7 @@ impl<'a> Chains<'a> {
 
     /// Moves the list on a side at one offset to the outer side of that at another.
     pub(crate) fn splice(&mut self, side: Side, from: u32, to: u32)
-        requires idle { Idle self.old.heads.slots.now self.old.heads.high }
         requires laid { ∥ Laid self.old.notes.slots.now self.old.heads.slots.now self.old.notes.free self.old.heads.free self.old.held ∥₁ }
-        ensures idle { Idle self.new.heads.slots.now self.new.heads.high }
         ensures laid { Laid self.old.notes.slots.now self.old.heads.slots.now self.old.notes.free self.old.heads.free self.old.held
             → Laid self.new.notes.slots.now self.new.heads.slots.now self.new.notes.free self.new.heads.free self.new.held
             × ((at : Side) (k : ℕ) → listed self.new.notes.slots.now self.new.heads.slots.now at k ≡ shifted side (listed self.old.notes.slots.now self.old.heads.slots.now) from to at k) }
@@ -109,7 +105,6 @@ impl<'a> Chains<'a> {
 
     /// How many comments the list on a side at an offset has.
     pub(crate) fn count(&self, side: Side, offset: u32) -> usize
-        requires { Idle self.now.heads.slots.now self.now.heads.high }
         ensures { Laid self.now.notes.slots.now self.now.heads.slots.now self.now.notes.free self.now.heads.free self.now.held
             → result ≡ length (listed self.now.notes.slots.now self.now.heads.slots.now side offset) }
     {
@@ -121,7 +116,6 @@ impl<'a> Chains<'a> {
 
     /// The comment at a rank of that list.
     pub(crate) fn comment(&self, side: Side, offset: u32, rank: usize) -> Option<u32>
-        requires { Idle self.now.heads.slots.now self.now.heads.high }
         ensures { Laid self.now.notes.slots.now self.now.heads.slots.now self.now.notes.free self.now.heads.free self.now.held
             → result ≡ slice_get (listed self.now.notes.slots.now self.now.heads.slots.now side offset) rank }
     {

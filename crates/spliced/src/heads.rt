@@ -80,23 +80,24 @@ fn find_list(slots: &[Head], high: u16, side: Side, offset: u32) -> Option<Found
         ((i : ℕ) → i < room (length slots.now) → key side offset (list_at slots.now i) ≡ false)
         (λ f. Slot (length slots.now) f.head × (list_at slots.now (f.head - 1) ≡ Some f.list) × (key side offset (Some f.list) ≡ true)) }
 {
-    for i in 0..high {
-        if let Some(list) = slots[i as usize].list {
+    for (i, head) in slots[..usize::from(high)].iter().enumerate() {
+        if let Some(list) = head.list {
             if list.stands_at(side, offset) {
-                return Some(Found { head: i + 1, list });
+                let head = i as u16 + 1;
+                return Some(Found { head, list });
             }
         }
     }
     None
 }
 
-/// Makes every record that has a slot an unused one.
+/// Makes every record an unused one.
 fn clear(slots: &mut [Head])
-    ensures unused { (i : ℕ) → i < room (length slots.old) → list_at slots.new i ≡ None }
-    ensures beyond { Beyond slots.old slots.new }
+    ensures unused { (i : ℕ) → list_at slots.new i ≡ None }
+    ensures length { length slots.new ≡ length slots.old }
 {
-    for i in 0..chain::last_slot(slots) {
-        slots[i as usize].list = None;
+    for head in slots.iter_mut() {
+        head.list = None;
     }
 }
 
@@ -132,6 +133,7 @@ pub(crate) struct Heads<'a> {
     pub(crate) slots: &'a mut [Head],
     pub(crate) free: u16,
     pub(crate) high: u16,
+    ghost idle: { Idle slots.now high },
 }
 
 impl<'a> Heads<'a> {
@@ -139,11 +141,11 @@ impl<'a> Heads<'a> {
     pub(crate) fn new(slots: &'a mut [Head]) -> Self
         ensures chain { Chain (head_links result.slots.now) result.free (slots_from 1 (room (length slots.old))) }
         ensures unused { (i : ℕ) → i < room (length slots.old) → list_at result.slots.now i ≡ None }
-        ensures idle { Idle result.slots.now result.high }
         ensures beyond { Beyond slots.old result.slots.now }
         ensures lender { result.slots.ghost_name ≡ slots.entry.ghost_name }
     {
-        clear(slots);
+        let last = usize::from(chain::last_slot(slots));
+        clear(&mut slots[..last]);
         let free = chain::make(slots);
         Heads {
             slots,
@@ -160,7 +162,6 @@ impl<'a> Heads<'a> {
 
     /// The record of the list on a side at an offset.
     pub(crate) fn find(&self, side: Side, offset: u32) -> Option<Found>
-        requires { Idle self.now.slots.now self.now.high }
         ensures high { IfSome result (λ f. f.head ≤ self.now.high) }
         ensures finds { MatchOption result
             ((i : ℕ) → i < room (length self.now.slots.now) → key side offset (list_at self.now.slots.now i) ≡ false)
@@ -173,8 +174,6 @@ impl<'a> Heads<'a> {
     /// Takes an unused record for a list.
     pub(crate) fn draw(&mut self, list: NoteList)
         requires slot { Slot (length self.old.slots.now) self.old.free }
-        requires idle { Idle self.old.slots.now self.old.high }
-        ensures idle { Idle self.new.slots.now self.new.high }
         ensures free { self.new.free ≡ link_at (head_links self.old.slots.now) self.old.free }
         ensures records { self.new.slots.now ≡ with_list self.old.slots.now self.old.free (Some list) }
         ensures lender { self.new.slots.ghost_name ≡ self.old.slots.ghost_name }
@@ -187,8 +186,7 @@ impl<'a> Heads<'a> {
     /// Lets a record hold another list.
     pub(crate) fn hold(&mut self, head: u16, list: NoteList)
         requires slot { Slot (length self.old.slots.now) head }
-        requires idle { (Idle self.old.slots.now self.old.high) × (head ≤ self.old.high) }
-        ensures idle { Idle self.new.slots.now self.new.high }
+        requires high { head ≤ self.old.high }
         ensures high { self.new.high ≡ self.old.high }
         ensures free { self.new.free ≡ self.old.free }
         ensures records { self.new.slots.now ≡ with_list self.old.slots.now head (Some list) }
@@ -201,8 +199,6 @@ impl<'a> Heads<'a> {
     pub(crate) fn give_back(&mut self, head: u16)
         requires inside { Slot (length self.old.slots.now) head }
         requires off { Off (head_links self.old.slots.now) self.old.free head }
-        requires idle { Idle self.old.slots.now self.old.high }
-        ensures idle { Idle self.new.slots.now self.new.high }
         ensures free { self.new.free ≡ head }
         ensures records { self.new.slots.now ≡ set self.old.slots.now (head - 1) (record { list = None; next = self.old.free }) }
         ensures lender { self.new.slots.ghost_name ≡ self.old.slots.ghost_name }

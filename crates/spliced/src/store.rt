@@ -13,7 +13,5 @@ mod meaning;
 #[derive(Drop)]
 pub struct Spliced<'a> {
     chains: Chains<'a>,
-    ghost high: { chains.heads.high ≤ room (length chains.heads.slots.now) },
-    ghost idle: { (i : ℕ) → chains.heads.high ≤ i → i < room (length chains.heads.slots.now) → used (list_at chains.heads.slots.now i) ≡ 0 },
     ghost laid: { ∥ Laid chains.notes.slots.now chains.heads.slots.now chains.notes.free chains.heads.free chains.held ∥₁ },
 }

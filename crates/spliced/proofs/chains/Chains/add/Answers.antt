@@ -13,14 +13,13 @@ join-requires c =
     last_written _ _ _ _ _ _ c.args.side c.args.offset _ _ _ _ found c.draw-note.ensures.records c.requires.laid
 
 pub draw-requires : goal.draw-requires
-draw-requires c = record { slot = next_head _ _ _ _ _ c.requires.room c.requires.laid; idle = c.requires.idle }
+draw-requires c = record { slot = next_head _ _ _ _ _ c.requires.room c.requires.laid }
 
 pub returns-in-Some : goal.returns-in-Some
 returns-in-Some c =
     let s = c.in-Some.ensures.finds in
     let found : At _ c.args.side c.args.offset c.in-Some.found.head c.in-Some.found.list = record { slot_in = s.0; holds = s.1; keyed = s.2 } in
     record {
-      idle = c.hold.ensures.idle;
       laid = grow _ _ _ _ _ _ _ _ _ _ _ _ c.args.side c.args.offset _ _ _ _ c.requires.room found c.draw-note.ensures.slot c.draw-note.ensures.free c.draw-note.ensures.records c.join.ensures.records c.join.ensures.free c.hold.ensures.records c.hold.ensures.free;
       held = refl;
       notes = beyond_twice _ _ _ _ _ _ _ (taken_slot _ _ _ _ _ _ c.requires.room c.draw-note.ensures.slot c.requires.laid) (last_found _ _ _ _ _ c.args.side c.args.offset _ _ found c.requires.laid) c.draw-note.ensures.records c.join.ensures.records;
@@ -31,7 +30,6 @@ returns-in-Some c =
 pub returns-in-None : goal.returns-in-None
 returns-in-None c =
     record {
-      idle = c.draw.ensures.idle;
       laid = begin _ _ _ _ _ _ _ _ _ _ c.args.side c.args.offset _ c.requires.room c.in-None.ensures.finds c.draw-note.ensures.slot c.draw-note.ensures.free c.draw-note.ensures.records c.draw.ensures.records c.draw.ensures.free;
       held = refl;
       notes = beyond_written _ _ _ _ (taken_slot _ _ _ _ _ _ c.requires.room c.draw-note.ensures.slot c.requires.laid) c.draw-note.ensures.records;

@@ -9,7 +9,6 @@ use Rattle.spliced.proofs.chains.Chains.splice.Goals as goal
 pub returns-then-from-to : goal.returns-then-from-to
 returns-then-from-to c =
     record {
-      idle = c.requires.idle;
       laid = λ p. (p, shifted_equal c.args.side _ c.args.from c.args.to c.if-from-to.true);
       held = refl;
       notes = beyond_none _;
@@ -20,7 +19,6 @@ returns-then-from-to c =
 pub returns-in_default : goal.returns-in_default
 returns-in_default c =
     record {
-      idle = c.requires.idle;
       laid = λ p. (p, shifted_empty c.args.side _ c.args.from c.args.to c.if-from-to.false ((means _ _ _ _ _ p.0 p.1 p.2 p.3).missing c.args.side c.args.from c.in_default.ensures.finds));
       held = refl;
       notes = beyond_none _;
@@ -33,7 +31,6 @@ returns-in_default-find c =
     let s = c.in-Some.ensures.finds in
     let found : At _ c.args.side c.args.from c.in-Some.source.head c.in-Some.source.list = record { slot_in = s.0; holds = s.1; keyed = s.2 } in
     record {
-      idle = c.hold.ensures.idle;
       laid = relabel _ _ _ _ _ _ _ c.args.side c.args.from c.args.to c.in-Some.source.head c.in-Some.source.list c.if-from-to.false found c.in_default-find.ensures.finds c.hold.ensures.records c.hold.ensures.free;
       held = refl;
       notes = beyond_none _;
@@ -55,7 +52,6 @@ give_back-requires c =
     let source : At _ c.args.side c.args.from c.in-Some.source.head c.in-Some.source.list = record { slot_in = s.0; holds = s.1; keyed = s.2 } in
     record {
       inside = still_slot _ _ c.in-Some.source.head _ _ c.hold-2.ensures.records s.0;
-      idle = c.hold-2.ensures.idle;
       off = may_give_back _ _ _ _ _ _ _ c.args.side c.args.from c.in-Some.source.head _ _ _ source c.hold-2.ensures.records c.hold-2.ensures.free c.requires.laid;
     }
 
@@ -66,7 +62,6 @@ returns c =
     let source : At _ c.args.side c.args.from c.in-Some.source.head c.in-Some.source.list = record { slot_in = s.0; holds = s.1; keyed = s.2 } in
     let target : At _ c.args.side c.args.to c.in-Some-find.target.head c.in-Some-find.target.list = record { slot_in = t.0; holds = t.1; keyed = t.2 } in
     record {
-      idle = c.give_back.ensures.idle;
       laid = join_both _ _ _ _ _ _ _ _ _ _ _ c.args.side c.args.from c.args.to _ _ _ _ _ _ _ c.if-from-to.false source target c.outer-front.ensures c.outer-back.ensures c.join.ensures.records c.hold-2.ensures.records c.hold-2.ensures.free c.give_back.ensures.records c.join.ensures.free c.give_back.ensures.free;
       held = refl;
       notes = beyond_written _ _ _ _ (front_slot _ _ _ _ _ c.args.side c.args.from c.args.to _ _ _ _ _ source target c.outer-front.ensures c.requires.laid) c.join.ensures.records;

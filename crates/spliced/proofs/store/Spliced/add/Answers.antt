@@ -6,7 +6,7 @@ use Rattle.spliced.proofs.store.Spliced.add.Goals as goal
 
 pub invariant_of-self : goal.invariant_of-self
 invariant_of-self c =
-    record { high = c.add.ensures.idle.0; idle = c.add.ensures.idle.1; laid = ∥∥₁_map c.args.self.now.laid (λ p. (c.add.ensures.laid p).0) }
+    record { laid = ∥∥₁_map c.args.self.now.laid (λ p. (c.add.ensures.laid p).0) }
 
 pub returns : goal.returns
 returns c =

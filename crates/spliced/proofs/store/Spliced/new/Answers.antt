@@ -5,7 +5,7 @@ use Rattle.spliced.proofs.store.Spliced.new.Goals as goal
 pub invariant_of-result : goal.invariant_of-result
 invariant_of-result c =
     let laid = fresh_laid _ _ _ _ _ _ (sym c.new.ensures.beyond.0) (sym c.new-2.ensures.beyond.0) c.new.ensures.chain c.new-2.ensures.chain c.new-2.ensures.unused in
-    record { high = c.new-2.ensures.idle.0; idle = c.new-2.ensures.idle.1; laid = ∣ laid ∣₁ }
+    record { laid = ∣ laid ∣₁ }
 
 pub returns : goal.returns
 returns c =

@@ -5,7 +5,7 @@ use Rattle.spliced.proofs.store.meaning.SplicedStore.move_leading.Goals as goal
 
 pub invariant_of-self : goal.invariant_of-self
 invariant_of-self c =
-    record { high = c.splice.ensures.idle.0; idle = c.splice.ensures.idle.1; laid = ∥∥₁_map c.args.self.now.laid (λ p. (c.splice.ensures.laid p).0) }
+    record { laid = ∥∥₁_map c.args.self.now.laid (λ p. (c.splice.ensures.laid p).0) }
 
 pub returns : goal.returns
 returns c =
