@@ -1,32 +1,23 @@
 // The records of lists: one for each list that is not empty, which says where the chain of its comments begins and ends.
 ghost use Rattle.std.specs.Prelude.{◌≡◌, ℕ, ◌-◌, ◌<◌, ◌≤◌, true, false, List, map, length, set, IfSome, Some, None, MatchOption};
 ghost use Rattle.chain.specs.Chain.{room, Slot, link_at, Chain, Off, slots_from, Beyond};
-ghost use Rattle.spliced.specs.Heads.{head_links, list_at, with_list, key};
+ghost use Rattle.spliced.specs.Heads.{head_links, list_at, with_list, key, At, Nowhere};
 ghost use Rattle.spliced.specs.Layout.{Idle};
 ghost use Rattle.std.proofs.Common.{refl};
 
 use chain::Link;
-use comments::Side;
+use comments::Spot;
 
-/// A list: on which side and at which offset it stands, and the slots of its first and its last comment.
-#[derive(Clone, Copy)]
+/// A list: where it stands, and the slots of its first and its last comment.
+#[derive(Clone, Copy, PartialEq, Eq, Debug)]
 pub struct NoteList {
-    pub side: Side,
-    pub offset: u32,
+    pub spot: Spot,
     pub first: u16,
     pub last: u16,
 }
 
-impl NoteList {
-    fn stands_at(&self, side: Side, offset: u32) -> bool
-        ensures { result ≡ key side offset (Some self.now) }
-    {
-        self.side == side && self.offset == offset
-    }
-}
-
 /// The record of a list, or an unused one; the link is for the unused.
-#[derive(Clone, Copy)]
+#[derive(Clone, Copy, PartialEq, Eq, Debug)]
 pub struct Head {
     list: Option<NoteList>,
     next: u16,
@@ -66,23 +57,21 @@ impl Link for Head {
 }
 
 /// Where a list was found.
-#[derive(Clone, Copy)]
+#[derive(Clone, Copy, PartialEq, Eq, Debug)]
 pub(crate) struct Found {
     pub(crate) head: u16,
     pub(crate) list: NoteList,
 }
 
-/// The record of the list on a side at an offset, where no record past `high` holds one.
-fn find_list(slots: &[Head], high: u16, side: Side, offset: u32) -> Option<Found>
+/// The record of the list at a spot, where no record past `high` holds one.
+fn find_list(slots: &[Head], high: u16, spot: Spot) -> Option<Found>
     requires { Idle slots.now high }
     ensures high { IfSome result (λ f. f.head ≤ high) }
-    ensures finds { MatchOption result
-        ((i : ℕ) → i < room (length slots.now) → key side offset (list_at slots.now i) ≡ false)
-        (λ f. Slot (length slots.now) f.head × (list_at slots.now (f.head - 1) ≡ Some f.list) × (key side offset (Some f.list) ≡ true)) }
+    ensures finds { MatchOption result (Nowhere slots.now spot.side spot.offset) (λ f. At slots.now spot.side spot.offset f.head f.list) }
 {
     for (i, head) in slots[..usize::from(high)].iter().enumerate() {
         if let Some(list) = head.list {
-            if list.stands_at(side, offset) {
+            if list.spot == spot {
                 let head = i as u16 + 1;
                 return Some(Found { head, list });
             }
@@ -160,15 +149,13 @@ impl<'a> Heads<'a> {
         chain::last_slot(self.slots)
     }
 
-    /// The record of the list on a side at an offset.
-    pub(crate) fn find(&self, side: Side, offset: u32) -> Option<Found>
+    /// The record of the list at a spot.
+    pub(crate) fn find(&self, spot: Spot) -> Option<Found>
         ensures high { IfSome result (λ f. f.head ≤ self.now.high) }
-        ensures finds { MatchOption result
-            ((i : ℕ) → i < room (length self.now.slots.now) → key side offset (list_at self.now.slots.now i) ≡ false)
-            (λ f. Slot (length self.now.slots.now) f.head × (list_at self.now.slots.now (f.head - 1) ≡ Some f.list) × (key side offset (Some f.list) ≡ true)) }
+        ensures finds { MatchOption result (Nowhere self.now.slots.now spot.side spot.offset) (λ f. At self.now.slots.now spot.side spot.offset f.head f.list) }
     {
         let high = self.high;
-        find_list(self.slots, high, side, offset)
+        find_list(self.slots, high, spot)
     }
 
     /// Takes an unused record for a list.
