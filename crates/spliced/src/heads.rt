@@ -1,6 +1,6 @@
 // The records of lists: one for each list that is not empty, which says where the chain of its comments begins and ends.
 ghost use Rattle.std.specs.Prelude.{◌≡◌, ℕ, ◌-◌, ◌<◌, ◌≤◌, true, false, List, map, length, set, IfSome, Some, None, MatchOption};
-ghost use Rattle.chain.specs.Chain.{room, Slot, link_at, Chain, Off, slots_from, Beyond};
+ghost use Rattle.chain.specs.Chain.{room, Slot, link_at, Chain, Off, slots_from, Beyond, SameLoan};
 ghost use Rattle.spliced.specs.Heads.{head_links, list_at, with_list, key, At, Nowhere};
 ghost use Rattle.spliced.specs.Layout.{Idle};
 ghost use Rattle.std.proofs.Common.{refl};
@@ -131,7 +131,7 @@ impl<'a> Heads<'a> {
         ensures chain { Chain (head_links result.slots.now) result.free (slots_from 1 (room (length slots.old))) }
         ensures unused { (i : ℕ) → i < room (length slots.old) → list_at result.slots.now i ≡ None }
         ensures beyond { Beyond slots.old result.slots.now }
-        ensures lender { result.slots.ghost_name ≡ slots.entry.ghost_name }
+        ensures lender { SameLoan slots.entry result.slots }
     {
         let last = usize::from(chain::last_slot(slots));
         clear(&mut slots[..last]);
@@ -163,7 +163,7 @@ impl<'a> Heads<'a> {
         requires slot { Slot (length self.old.slots.now) self.old.free }
         ensures free { self.new.free ≡ link_at (head_links self.old.slots.now) self.old.free }
         ensures records { self.new.slots.now ≡ with_list self.old.slots.now self.old.free (Some list) }
-        ensures lender { self.new.slots.ghost_name ≡ self.old.slots.ghost_name }
+        ensures lender { SameLoan self.old.slots self.new.slots }
     {
         let first = self.free;
         self.high = self.high.max(first);
@@ -177,7 +177,7 @@ impl<'a> Heads<'a> {
         ensures high { self.new.high ≡ self.old.high }
         ensures free { self.new.free ≡ self.old.free }
         ensures records { self.new.slots.now ≡ with_list self.old.slots.now head (Some list) }
-        ensures lender { self.new.slots.ghost_name ≡ self.old.slots.ghost_name }
+        ensures lender { SameLoan self.old.slots self.new.slots }
     {
         self.slots[head as usize - 1].list = Some(list);
     }
@@ -188,7 +188,7 @@ impl<'a> Heads<'a> {
         requires off { Off (head_links self.old.slots.now) self.old.free head }
         ensures free { self.new.free ≡ head }
         ensures records { self.new.slots.now ≡ set self.old.slots.now (head - 1) (record { list = None; next = self.old.free }) }
-        ensures lender { self.new.slots.ghost_name ≡ self.old.slots.ghost_name }
+        ensures lender { SameLoan self.old.slots self.new.slots }
     {
         let first = self.free;
         release(self.slots, first, head);

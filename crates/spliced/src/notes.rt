@@ -1,7 +1,7 @@
 // The records of comments: each list of comments is a chain of them, and so are those that are unused.
 ghost use Rattle.std.specs.Prelude.{◌≡◌, ℕ, ◌-◌, ◌<◌, List, map, length, set, MatchOption};
 ghost use Rattle.std.specs.List.{slice_get};
-ghost use Rattle.chain.specs.Chain.{room, Slot, link_at, Chain, slots_from, relinked, Beyond};
+ghost use Rattle.chain.specs.Chain.{room, Slot, link_at, Chain, slots_from, relinked, Beyond, SameLoan};
 ghost use Rattle.spliced.specs.Notes.{links, comments, comment_at, linked_note};
 ghost use Rattle.std.proofs.Common.{refl};
 
@@ -59,7 +59,7 @@ impl<'a> Notes<'a> {
     pub(crate) fn new(slots: &'a mut [Note]) -> Self
         ensures chain { Chain (links result.slots.now) result.free (slots_from 1 (room (length slots.old))) }
         ensures beyond { Beyond slots.old result.slots.now }
-        ensures lender { result.slots.ghost_name ≡ slots.entry.ghost_name }
+        ensures lender { SameLoan slots.entry result.slots }
     {
         let free = chain::make(slots);
         Notes { slots, free }
@@ -91,7 +91,7 @@ impl<'a> Notes<'a> {
         ensures slot { result ≡ self.old.free }
         ensures free { self.new.free ≡ link_at (links self.old.slots.now) result }
         ensures records { self.new.slots.now ≡ set self.old.slots.now (result - 1) (record { comment = comment; next = 0 }) }
-        ensures lender { self.new.slots.ghost_name ≡ self.old.slots.ghost_name }
+        ensures lender { SameLoan self.old.slots self.new.slots }
     {
         let slot = self.free;
         self.free = take_note(self.slots, slot, comment);
@@ -103,7 +103,7 @@ impl<'a> Notes<'a> {
         requires { Slot (length self.old.slots.now) last }
         ensures free { self.new.free ≡ self.old.free }
         ensures records { self.new.slots.now ≡ relinked linked_note self.old.slots.now last first (record { comment = 0; next = 0 }) }
-        ensures lender { self.new.slots.ghost_name ≡ self.old.slots.ghost_name }
+        ensures lender { SameLoan self.old.slots self.new.slots }
     {
         chain::link_to(self.slots, last, first);
     }
