@@ -1,5 +1,6 @@
 // Making a register, and asking how many comments more it holds.
 ghost use Rattle.std.specs.Prelude.{◌≡◌, ℕ, [], length};
+ghost use Rattle.chain.specs.Chain.{SameLoan};
 ghost use Rattle.comments.specs.declared.store.Side.{Side};
 ghost use Rattle.register.specs.Held.{lists_of, spare_of};
 
@@ -12,7 +13,7 @@ impl<'a> Register<'a> {
         ensures lists { (side : Side) (k : ℕ) → lists_of result side k ≡ [] }
         ensures spare { spare_of result ≡ length slots.old }
         ensures records { result.entries.slots.now ≡ slots.old }
-        ensures lender { result.entries.slots.ghost_name ≡ slots.entry.ghost_name }
+        ensures lender { SameLoan slots.entry result.entries.slots }
     {
         Register {
             entries: Entries { slots, used: 0 },

@@ -1,5 +1,6 @@
 // What is asked of the entries among the records, and done to them.
 ghost use Rattle.std.specs.Prelude.{◌≡◌, ◌+◌, ◌<◌, true, ◌++◌, map, length, drop, count_by, MatchOption, slice_set};
+ghost use Rattle.chain.specs.Chain.{SameLoan};
 ghost use Rattle.std.specs.List.{AllByRecursion};
 ghost use Rattle.register.specs.Listing.{here, ranked, comment_at};
 ghost use Rattle.register.specs.Joins.{moved_to};
@@ -34,7 +35,7 @@ impl<'a> Entries<'a> {
         requires { AllByRecursion (λ e. here joining.side joining.second e ≡ true → e.rank + joining.ahead < length (entries_of self.old)) (entries_of self.old) }
         ensures used { self.new.used ≡ self.old.used }
         ensures slots { self.new.slots.now ≡ map (moved_to joining.side joining.first joining.second joining.to joining.ahead) (entries_of self.old) ++ drop self.old.used self.old.slots.now }
-        ensures lender { self.new.slots.ghost_name ≡ self.old.slots.ghost_name }
+        ensures lender { SameLoan self.old.slots self.new.slots }
     {
         let used = self.used;
         rejoin_each(&mut self.slots[..used], joining);
@@ -45,7 +46,7 @@ impl<'a> Entries<'a> {
         requires { self.old.used < length self.old.slots.now }
         ensures used { self.new.used ≡ self.old.used + 1 }
         ensures slots { self.new.slots.now ≡ slice_set self.old.slots.now self.old.used entry }
-        ensures lender { self.new.slots.ghost_name ≡ self.old.slots.ghost_name }
+        ensures lender { SameLoan self.old.slots self.new.slots }
     {
         let used = self.used;
         self.slots[used] = entry;

@@ -1,5 +1,6 @@
 // The register as a comment store: what an addition and a move do to the entries, and what the questions answer.
 ghost use Rattle.std.specs.Prelude.{◌≡◌, ℕ, ◌⊎◌, ◌≢◌, OnErr, slice_index_or};
+ghost use Rattle.chain.specs.Chain.{SameLoan};
 ghost use Rattle.comments.specs.declared.store.Side.{Side};
 ghost use Rattle.comments.specs.Filling.{Fills};
 ghost use Rattle.comments.specs.Lists.{shifted};
@@ -21,7 +22,7 @@ impl<'a> Register<'a> {
         requires ends { (to ≡ first) ⊎ (to ≡ second) }
         ensures lists { (at : Side) (k : ℕ) → lists_of self.new at k ≡ together (lists_of self.old) side first second to at k }
         ensures beyond { beyond self.new ≡ beyond self.old }
-        ensures lender { self.new.entries.slots.ghost_name ≡ self.old.entries.slots.ghost_name }
+        ensures lender { SameLoan self.old.entries.slots self.new.entries.slots }
     {
         let ahead = self.entries.count(side.at(first));
         self.entries.join(Joining {
@@ -44,7 +45,7 @@ impl<'a> Store for Register<'a> {
         ensures fills { Fills (lists_of self.old) (lists_of self.new) (spare_of self.old) (spare_of self.new) spot.side spot.offset comment result }
         ensures same { OnErr result (self.new ≡ self.old) }
         ensures records { (i : ℕ) (d : Entry) → (i ≢ self.old.entries.used) → slice_index_or self.new.entries.slots.now i d ≡ slice_index_or self.old.entries.slots.now i d }
-        ensures lender { self.new.entries.slots.ghost_name ≡ self.old.entries.slots.ghost_name }
+        ensures lender { SameLoan self.old.entries.slots self.new.entries.slots }
     {
         if self.spare() == 0 {
             return Err(Refusal::TooFewRecords { needed: 1 });
@@ -63,7 +64,7 @@ impl<'a> Store for Register<'a> {
         ensures moved { (at : Side) (k : ℕ) → lists_of self.new at k ≡ shifted side (lists_of self.old) from to at k }
         ensures vacant { spare_of self.new ≡ spare_of self.old }
         ensures beyond { beyond self.new ≡ beyond self.old }
-        ensures lender { self.new.entries.slots.ghost_name ≡ self.old.entries.slots.ghost_name }
+        ensures lender { SameLoan self.old.entries.slots self.new.entries.slots }
     {
         if from == to {
             return;
