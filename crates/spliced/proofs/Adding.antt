@@ -6,9 +6,9 @@ use Rattle.comments.specs.Lists.{added}
 use Rattle.chain.specs.Chain.{room, Slot, link_at, times, relinked}
 use Rattle.chain.proofs.Counting.{is_same}
 use Rattle.chain.proofs.Laws.{chain_slot, link_at_set, link_at_other}
-use Rattle.spliced.specs.declared.notes.Note.{Note}
+use Rattle.spliced.specs.Notes.{Note}
 use Rattle.spliced.specs.declared.heads.NoteList.{NoteList}
-use Rattle.spliced.specs.declared.heads.Head.{Head}
+use Rattle.spliced.specs.Heads.{Head}
 use Rattle.spliced.specs.Notes.{links, comments, comment_at, linked_note}
 use Rattle.spliced.specs.Heads.{head_links, blank, list_at, with_list, key, At, Nowhere, listed}
 use Rattle.spliced.specs.Layout.{Fit, used, Layout, Laid}
@@ -28,7 +28,7 @@ fit_slot m (Some l) ks k f t = (chain_slot m l.first k ks f.1 t).0
 -- a note with a comment, taken from the unused ones
 module _ (notes : List Note) (heads : List Head) (fn fh held : ℕ) (c : ℕ) (owned : List (List ℕ)) (ns hs : List ℕ) (y : Layout (links notes) (head_links heads) (list_at heads) fn fh held owned (fn ∷ ns) hs []) where
   abbrev taken : List Note
-  taken = set notes (fn - 1) (record { comment = c; next = 0 })
+  taken = set notes (fn - 1) (record { content = c; next = 0 })
 
   -- the one note as a list
   abbrev alone : Side → ℕ → NoteList
@@ -61,7 +61,7 @@ module _ (notes : List Note) (heads : List Head) (fn fh held : ℕ) (c : ℕ) (o
   pub its_own : comment_at (set (comments notes) (fn - 1) c) fn ≡ c
   its_own =
       link_at_set (comments notes) fn c
-      (subst (λ (n : ℕ). Slot n fn) (length-map notes (λ (n : Note). n.next) ∙ sym (length-map notes (λ (n : Note). n.comment))) fn_slot)
+      (subst (λ (n : ℕ). Slot n fn) (length-map notes (λ (n : Note). n.next) ∙ sym (length-map notes (λ (n : Note). n.content))) fn_slot)
 
   -- put last in a list that is there
   pub put_last :
@@ -102,7 +102,7 @@ module _ (notes : List Note) (heads : List Head) (fn fh held : ℕ) (c : ℕ) (o
       inside = omega (arith, target.slot_in.0, target.slot_in.1)
 
       new : Head
-      new = record { list = Some l; next = (get_or heads (th - 1) blank).next }
+      new = record { content = Some l; next = (get_or heads (th - 1) blank).next }
 
       long : length heads' ≡ length heads
       long = ap length eh ∙ length-set heads (th - 1) new
@@ -117,7 +117,7 @@ module _ (notes : List Note) (heads : List Head) (fn fh held : ℕ) (c : ℕ) (o
       before = means notes heads fn fh held owned (fn ∷ ns) hs y
 
       new_comments : comments notes' ≡ set (comments notes) (fn - 1) c
-      new_comments = ap comments en ∙ comments_joined taken b.last fn d ∙ comments_written notes (fn - 1) (record { comment = c; next = 0 })
+      new_comments = ap comments en ∙ comments_joined taken b.last fn d ∙ comments_written notes (fn - 1) (record { content = c; next = 0 })
 
       grows : map (comment_at (comments notes')) (get_or owned (th - 1) [] ++ (fn ∷ [])) ≡ listed notes heads side k ++ (c ∷ [])
       grows =
@@ -132,7 +132,7 @@ module _ (notes : List Note) (heads : List Head) (fn fh held : ℕ) (c : ℕ) (o
       after : Layout (links notes') (head_links heads') (list_at heads') (link_at (links notes) fn) fh (held + 1) owned' ns hs []
       after =
           moved_layout (set (set (links notes) (fn - 1) 0) (b.last - 1) fn) (links notes') (head_links heads) (head_links heads') (list_at heads') (link_at (links notes) fn) fh (held + 1) owned' ns hs []
-          (ap links en ∙ links_joined taken b.last fn d ∙ ap (λ (m : List ℕ). set m (b.last - 1) fn) (links_written notes (fn - 1) (record { comment = c; next = 0 })))
+          (ap links en ∙ links_joined taken b.last fn d ∙ ap (λ (m : List ℕ). set m (b.last - 1) fn) (links_written notes (fn - 1) (record { content = c; next = 0 })))
           (ap head_links eh ∙ head_links_held heads th (Some l))
           (extended (set (links notes) (fn - 1) 0) (head_links heads) (list_at heads) (link_at (links notes) fn) fh (held + 1) owned (th - 1) b (alone side k) l (get_or owned (th - 1) []) (fn ∷ []) (list_at heads') ns hs (fn ∷ [])
           (below notes heads fn fh held side k th b target) fit_b (one_note side k)
@@ -154,7 +154,7 @@ pub put_first :
     (k : ℕ)
     → Layout (links notes) (head_links heads) (list_at heads) fn fh held owned (fn ∷ ns) (fh ∷ hs) []
     → Nowhere heads side k
-    → notes' ≡ set notes (fn - 1) (record { comment = c; next = 0 })
+    → notes' ≡ set notes (fn - 1) (record { content = c; next = 0 })
     → heads' ≡ with_list heads fh (Some (record { spot = record { side = side; offset = k }; first = fn; last = fn }))
     → Laid notes' heads' (link_at (links notes) fn) (link_at (head_links heads) fh) (held + 1) × ((at : Side) (j : ℕ) → listed notes' heads' at j ≡ added (listed notes heads) side k c at j)
 put_first notes notes' heads heads' fn fh held c owned ns hs side k y none en eh = (
@@ -187,13 +187,13 @@ put_first notes notes' heads heads' fn fh held c owned ns hs side k y none en eh
     inside = omega (arith, r, sh.0, sh.1)
 
     new : Head
-    new = record { list = Some (record { spot = record { side = side; offset = k }; first = fn; last = fn }); next = (get_or heads (fh - 1) blank).next }
+    new = record { content = Some (record { spot = record { side = side; offset = k }; first = fn; last = fn }); next = (get_or heads (fh - 1) blank).next }
 
     long : length heads' ≡ length heads
-    long = ap length eh ∙ length-set heads (fh - 1) (record { list = Some (record { spot = record { side = side; offset = k }; first = fn; last = fn }); next = (get_or heads (fh - 1) blank).next })
+    long = ap length eh ∙ length-set heads (fh - 1) (record { content = Some (record { spot = record { side = side; offset = k }; first = fn; last = fn }); next = (get_or heads (fh - 1) blank).next })
 
     hold : (n : ℕ) → Holding (list_at heads) n (fh - 1) (Some (record { spot = record { side = side; offset = k }; first = fn; last = fn })) (list_at heads')
-    hold n = subst (λ (h : List Head). Holding (list_at heads) n (fh - 1) (Some (record { spot = record { side = side; offset = k }; first = fn; last = fn })) (list_at h)) (sym eh) (holding heads n (fh - 1) (record { list = Some (record { spot = record { side = side; offset = k }; first = fn; last = fn }); next = (get_or heads (fh - 1) blank).next }) (omega (arith, inside)))
+    hold n = subst (λ (h : List Head). Holding (list_at heads) n (fh - 1) (Some (record { spot = record { side = side; offset = k }; first = fn; last = fn })) (list_at h)) (sym eh) (holding heads n (fh - 1) (record { content = Some (record { spot = record { side = side; offset = k }; first = fn; last = fn }); next = (get_or heads (fh - 1) blank).next }) (omega (arith, inside)))
 
     empty : used (list_at heads (fh - 1)) ≡ 0
     empty =
@@ -212,12 +212,12 @@ put_first notes notes' heads heads' fn fh held c owned ns hs side k y none en eh
     before = means notes heads fn fh held owned (fn ∷ ns) (fh ∷ hs) y
 
     new_comments : comments notes' ≡ set (comments notes) (fn - 1) c
-    new_comments = ap comments en ∙ comments_written notes (fn - 1) (record { comment = c; next = 0 })
+    new_comments = ap comments en ∙ comments_written notes (fn - 1) (record { content = c; next = 0 })
 
     after : Layout (links notes') (head_links heads') (list_at heads') (link_at (links notes) fn) (link_at (head_links heads) fh) (held + 1) owned' ns hs []
     after =
         moved_layout (set (links notes) (fn - 1) 0) (links notes') (head_links heads) (head_links heads') (list_at heads') (link_at (links notes) fn) (link_at (head_links heads) fh) (held + 1) owned' ns hs []
-        (ap links en ∙ links_written notes (fn - 1) (record { comment = c; next = 0 }))
+        (ap links en ∙ links_written notes (fn - 1) (record { content = c; next = 0 }))
         (ap head_links eh ∙ head_links_held heads fh (Some (record { spot = record { side = side; offset = k }; first = fn; last = fn })))
         (opened (set (links notes) (fn - 1) 0) (head_links heads) (list_at heads) (link_at (links notes) fn) fh (held + 1) owned fh (record { spot = record { side = side; offset = k }; first = fn; last = fn }) (list_at heads') ns hs (fn ∷ [])
         (one_note notes heads fn fh held c owned ns (fh ∷ hs) y side k)

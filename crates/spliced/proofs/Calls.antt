@@ -6,9 +6,9 @@ use Rattle.comments.specs.declared.store.Side.{Side}
 use Rattle.comments.specs.declared.store.Side.TheVariants.{Leading, Trailing}
 use Rattle.comments.specs.Lists.{join, shifted}
 use Rattle.chain.specs.Chain.{room, times, relinked}
-use Rattle.spliced.specs.declared.notes.Note.{Note}
+use Rattle.spliced.specs.Notes.{Note}
 use Rattle.spliced.specs.declared.heads.NoteList.{NoteList}
-use Rattle.spliced.specs.declared.heads.Head.{Head}
+use Rattle.spliced.specs.Heads.{Head}
 use Rattle.spliced.specs.Notes.{links, comments, linked_note}
 use Rattle.spliced.specs.Heads.{head_links, blank, list_at, with_list, key, At, Nowhere, front_of, listed}
 use Rattle.spliced.specs.Layout.{Fit, used, Layout, Laid}
@@ -59,7 +59,7 @@ relabelled_all notes heads heads' fn fh held side from to slot a l ne found none
     r = rooms notes heads fn fh held
 
     long : length heads' ≡ length heads
-    long = ap length e ∙ length-set heads (slot - 1) (record { list = Some l; next = (get_or heads (slot - 1) blank).next })
+    long = ap length e ∙ length-set heads (slot - 1) (record { content = Some l; next = (get_or heads (slot - 1) blank).next })
 
     same_room : room (length heads') ≡ room (length heads)
     same_room = ap room long
@@ -68,7 +68,7 @@ relabelled_all notes heads heads' fn fh held side from to slot a l ne found none
     kl = key_spot side to l (record { spot = record { side = side; offset = to }; first = l.first; last = l.last }) spot ∙ key_own (record { spot = record { side = side; offset = to }; first = l.first; last = l.last })
 
     hold : (n : ℕ) → Holding (list_at heads) n (slot - 1) (Some l) (list_at heads')
-    hold n = subst (λ (h : List Head). Holding (list_at heads) n (slot - 1) (Some l) (list_at h)) (sym e) (holding heads n (slot - 1) (record { list = Some l; next = (get_or heads (slot - 1) blank).next }) (omega (arith, found.slot_in.0, found.slot_in.1)))
+    hold n = subst (λ (h : List Head). Holding (list_at heads) n (slot - 1) (Some l) (list_at h)) (sym e) (holding heads n (slot - 1) (record { content = Some l; next = (get_or heads (slot - 1) blank).next }) (omega (arith, found.slot_in.0, found.slot_in.1)))
 
     after : Layout (links notes) (head_links heads') (list_at heads') fn fh held p.0 p.1 p.2 []
     after =
@@ -95,7 +95,7 @@ pub joined_all :
     → l.spot ≡ b.spot
     → notes' ≡ relinked linked_note notes (front_of side a b).last (front_of side b a).first d
     → heads₁ ≡ with_list heads th (Some l)
-    → heads' ≡ set heads₁ (sh - 1) (record { list = None; next = fh })
+    → heads' ≡ set heads₁ (sh - 1) (record { content = None; next = fh })
     → Laid notes heads fn fh held
     → Laid notes' heads' fn sh held × ((at : Side) (k : ℕ) → listed notes' heads' at k ≡ shifted side (listed notes heads) from to at k)
 joined_all notes notes' heads heads₁ heads' fn fh held side from to sh th a b l d ne source target first last spot en e₁ e' p = (
@@ -124,25 +124,25 @@ joined_all notes notes' heads heads₁ heads' fn fh held side from to sh th a b 
     owned' = set (set p.0 (sh - 1) []) (th - 1) (join side (get_or p.0 (sh - 1) []) (get_or p.0 (th - 1) []))
 
     held₁ : List Head
-    held₁ = set heads (sh - 1) (record { list = None; next = fh })
+    held₁ = set heads (sh - 1) (record { content = None; next = fh })
 
     apart : th - 1 ≢ sh - 1
     apart e = ne (sym (key_twice side side from to a source.keyed (ap (key side to) (sym source.holds ∙ ap (list_at heads) (sym e) ∙ target.holds) ∙ target.keyed)).1)
 
     new : Head
-    new = record { list = Some l; next = (get_or heads (th - 1) blank).next }
+    new = record { content = Some l; next = (get_or heads (th - 1) blank).next }
 
     turned : heads' ≡ set held₁ (th - 1) new
-    turned = e' ∙ ap (λ (h : List Head). set h (sh - 1) (record { list = None; next = fh })) e₁ ∙ set_comm heads (th - 1) (sh - 1) new (record { list = None; next = fh }) apart
+    turned = e' ∙ ap (λ (h : List Head). set h (sh - 1) (record { content = None; next = fh })) e₁ ∙ set_comm heads (th - 1) (sh - 1) new (record { content = None; next = fh }) apart
 
     long : length heads' ≡ length heads
-    long = ap length turned ∙ length-set held₁ (th - 1) new ∙ length-set heads (sh - 1) (record { list = None; next = fh })
+    long = ap length turned ∙ length-set held₁ (th - 1) new ∙ length-set heads (sh - 1) (record { content = None; next = fh })
 
     gives : (n : ℕ) → Holding (list_at heads) n (sh - 1) None (list_at held₁)
-    gives n = holding heads n (sh - 1) (record { list = None; next = fh }) (omega (arith, source.slot_in.0, source.slot_in.1))
+    gives n = holding heads n (sh - 1) (record { content = None; next = fh }) (omega (arith, source.slot_in.0, source.slot_in.1))
 
     takes : (n : ℕ) → Holding (list_at held₁) n (th - 1) (Some l) (list_at heads')
-    takes n = subst (λ (h : List Head). Holding (list_at held₁) n (th - 1) (Some l) (list_at h)) (sym turned) (holding held₁ n (th - 1) new (omega (arith, target.slot_in.0, target.slot_in.1, length-set heads (sh - 1) (record { list = None; next = fh }))))
+    takes n = subst (λ (h : List Head). Holding (list_at held₁) n (th - 1) (Some l) (list_at h)) (sym turned) (holding held₁ n (th - 1) new (omega (arith, target.slot_in.0, target.slot_in.1, length-set heads (sh - 1) (record { content = None; next = fh }))))
 
     same_key : (at : Side) (k : ℕ) → key at k (Some l) ≡ key at k (Some b)
     same_key at k = key_spot at k l b spot

@@ -6,9 +6,9 @@ use Rattle.comments.specs.declared.store.Side.{Side}
 use Rattle.chain.specs.Chain.{room, Chain, times, slots_from}
 use Rattle.chain.proofs.Counting.{is_cases}
 use Rattle.chain.proofs.Laws.{chain_once}
-use Rattle.spliced.specs.declared.notes.Note.{Note}
+use Rattle.spliced.specs.Notes.{Note}
 use Rattle.spliced.specs.declared.heads.NoteList.{NoteList}
-use Rattle.spliced.specs.declared.heads.Head.{Head}
+use Rattle.spliced.specs.Heads.{Head}
 use Rattle.spliced.specs.Notes.{links}
 use Rattle.spliced.specs.Heads.{head_links, list_at, key, listed}
 use Rattle.spliced.specs.Layout.{Fit, used, Laid}

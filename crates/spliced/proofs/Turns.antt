@@ -6,9 +6,9 @@ use Rattle.comments.specs.declared.store.Side.TheVariants.{Leading, Trailing}
 use Rattle.comments.specs.Lists.{shifted, added}
 use Rattle.chain.specs.Chain.{room, Slot, link_at, Chain, Off, times, relinked, Beyond}
 use Rattle.chain.proofs.Records.{beyond_set, beyond_more}
-use Rattle.spliced.specs.declared.notes.Note.{Note}
+use Rattle.spliced.specs.Notes.{Note}
 use Rattle.spliced.specs.declared.heads.NoteList.{NoteList}
-use Rattle.spliced.specs.declared.heads.Head.{Head}
+use Rattle.spliced.specs.Heads.{Head}
 use Rattle.spliced.specs.Notes.{links, linked_note}
 use Rattle.spliced.specs.Heads.{head_links, blank, list_at, with_list, At, Nowhere, front_of, listed}
 use Rattle.spliced.specs.Layout.{Layout, Laid}
@@ -52,7 +52,7 @@ may_give_back notes heads heads₁ fn fh fh₁ held side from sh th a o p e d h 
 
 pub still_slot : (heads heads₁ : List Head) (k th : ℕ) (o : Option NoteList) → heads₁ ≡ with_list heads th o → Slot (length heads) k → Slot (length heads₁) k
 still_slot heads heads₁ k th o e s =
-    subst (λ (n : ℕ). Slot n k) (sym (ap length e ∙ length-set heads (th - 1) (record { list = o; next = (get_or heads (th - 1) blank).next }))) s
+    subst (λ (n : ℕ). Slot n k) (sym (ap length e ∙ length-set heads (th - 1) (record { content = o; next = (get_or heads (th - 1) blank).next }))) s
 
 -- a list relabelled, the chain of unused heads as it was
 pub relabel :
@@ -92,7 +92,7 @@ pub join_both :
     → notes' ≡ relinked linked_note notes front.last back.first d
     → heads₁ ≡ with_list heads th (Some (record { spot = b.spot; first = front.first; last = back.last }))
     → fh₁ ≡ fh
-    → heads' ≡ set heads₁ (sh - 1) (record { list = None; next = fh₁ })
+    → heads' ≡ set heads₁ (sh - 1) (record { content = None; next = fh₁ })
     → fn' ≡ fn
     → fh' ≡ sh
     → Laid notes heads fn fh held
@@ -102,7 +102,7 @@ join_both notes notes' heads heads₁ heads' fn fn' fh fh₁ fh' held side from 
     joined_all notes notes' heads heads₁ heads' fn fh held side from to sh th a b (record { spot = b.spot; first = front.first; last = back.last }) d ne source target (ap (λ (l : NoteList). l.first) ef) (ap (λ (l : NoteList). l.last) eb) refl
     (en ∙ ap (λ (l : NoteList). relinked linked_note notes l.last back.first d) ef ∙ ap (λ (l : NoteList). relinked linked_note notes (front_of side a b).last l.first d) eb)
     e₁
-    (e' ∙ ap (λ (x : ℕ). set heads₁ (sh - 1) (record { list = None; next = x })) d₁)
+    (e' ∙ ap (λ (x : ℕ). set heads₁ (sh - 1) (record { content = None; next = x })) d₁)
     p
     in (
       subst (λ (x : ℕ). Laid notes' heads' x fh' held) (sym dn) (subst (λ (x : ℕ). Laid notes' heads' fn x held) (sym dh) q.0),
@@ -147,7 +147,7 @@ pub grow :
     → At heads side k th b
     → note ≡ fn
     → fn₁ ≡ link_at (links notes) note
-    → notes₁ ≡ set notes (note - 1) (record { comment = c; next = 0 })
+    → notes₁ ≡ set notes (note - 1) (record { content = c; next = 0 })
     → notes' ≡ relinked linked_note notes₁ b.last note d
     → fn' ≡ fn₁
     → heads' ≡ with_list heads th (Some (record { spot = b.spot; first = b.first; last = note }))
@@ -162,7 +162,7 @@ grow notes notes₁ notes' heads heads' fn fn₁ fn' fh fh' held note side k th 
     in
     let q =
     put_last notes heads fn fh held c p.0 f.0 p.2 y notes' heads' side k th b (record { spot = b.spot; first = b.first; last = note }) d found refl e refl
-    (e' ∙ ap (λ (s : List Note). relinked linked_note s b.last note d) (e₁ ∙ ap (λ (x : ℕ). set notes (x - 1) (record { comment = c; next = 0 })) e) ∙ ap (λ (x : ℕ). relinked linked_note (set notes (fn - 1) (record { comment = c; next = 0 })) b.last x d) e)
+    (e' ∙ ap (λ (s : List Note). relinked linked_note s b.last note d) (e₁ ∙ ap (λ (x : ℕ). set notes (x - 1) (record { content = c; next = 0 })) e) ∙ ap (λ (x : ℕ). relinked linked_note (set notes (fn - 1) (record { content = c; next = 0 })) b.last x d) e)
     eh
     in (
       subst (λ (x : ℕ). Laid notes' heads' x fh' (held + 1)) (sym (d' ∙ d₁ ∙ ap (link_at (links notes)) e)) (subst (λ (x : ℕ). Laid notes' heads' (link_at (links notes) fn) x (held + 1)) (sym dh) q.0),
@@ -180,7 +180,7 @@ pub begin :
     → Nowhere heads side k
     → note ≡ fn
     → fn' ≡ link_at (links notes) note
-    → notes' ≡ set notes (note - 1) (record { comment = c; next = 0 })
+    → notes' ≡ set notes (note - 1) (record { content = c; next = 0 })
     → heads' ≡ with_list heads fh (Some (record { spot = record { side = side; offset = k }; first = note; last = note }))
     → fh' ≡ link_at (head_links heads) fh
     → Laid notes heads fn fh held
@@ -196,7 +196,7 @@ begin notes notes' heads heads' fn fn' fh fh' held note side k c r none e d' e' 
     in
     let q =
     put_first notes notes' heads heads' fn fh held c p.0 f.0 g.0 side k y none
-    (e' ∙ ap (λ (x : ℕ). set notes (x - 1) (record { comment = c; next = 0 })) e)
+    (e' ∙ ap (λ (x : ℕ). set notes (x - 1) (record { content = c; next = 0 })) e)
     (eh ∙ ap (λ (x : ℕ). with_list heads fh (Some (record { spot = record { side = side; offset = k }; first = x; last = x }))) e)
     in (
       subst (λ (x : ℕ). Laid notes' heads' x fh' (held + 1)) (sym (d' ∙ ap (link_at (links notes)) e)) (subst (λ (x : ℕ). Laid notes' heads' (link_at (links notes) fn) x (held + 1)) (sym dh) q.0),

@@ -6,9 +6,9 @@ use Rattle.std.proofs.lemmas.List.{length-map}
 use Rattle.comments.specs.declared.store.Side.{Side}
 use Rattle.chain.specs.Chain.{room, Slot, Chain, times}
 use Rattle.chain.proofs.Laws.{chain_unique}
-use Rattle.spliced.specs.declared.notes.Note.{Note}
+use Rattle.spliced.specs.Notes.{Note}
 use Rattle.spliced.specs.declared.heads.NoteList.{NoteList}
-use Rattle.spliced.specs.declared.heads.Head.{Head}
+use Rattle.spliced.specs.Heads.{Head}
 use Rattle.spliced.specs.Notes.{links}
 use Rattle.spliced.specs.Heads.{head_links, list_at, At}
 use Rattle.spliced.specs.Layout.{Fit, used, Laid}

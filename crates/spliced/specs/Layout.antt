@@ -12,9 +12,9 @@
 use Rattle.std.specs.Prelude.{◌≡◌, ℕ, ◌+◌, ◌<◌, ◌≤◌, true, List, [], ◌∷◌, ◌++◌, length, Some, None, sum_by, Option, slice_index_or}
 use Rattle.comments.specs.declared.store.Side.{Side}
 use Rattle.chain.specs.Chain.{room, Chain, times}
-use Rattle.spliced.specs.declared.notes.Note.{Note}
+use Rattle.spliced.specs.Notes.{Note}
 use Rattle.spliced.specs.declared.heads.NoteList.{NoteList}
-use Rattle.spliced.specs.declared.heads.Head.{Head}
+use Rattle.spliced.specs.Heads.{Head}
 use Rattle.spliced.specs.Notes.{links}
 use Rattle.spliced.specs.Heads.{head_links, list_at, key}
 

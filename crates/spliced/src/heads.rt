@@ -3,9 +3,8 @@ ghost use Rattle.std.specs.Prelude.{◌≡◌, ℕ, ◌-◌, ◌<◌, ◌≤◌,
 ghost use Rattle.chain.specs.Chain.{room, Slot, link_at, Chain, Off, slots_from, Beyond, SameLoan};
 ghost use Rattle.spliced.specs.Heads.{head_links, list_at, with_list, key, At, Nowhere};
 ghost use Rattle.spliced.specs.Layout.{Idle};
-ghost use Rattle.std.proofs.Common.{refl};
 
-use chain::Link;
+use crate::linked::Linked;
 use comments::Spot;
 
 /// A list: where it stands, and the slots of its first and its last comment.
@@ -17,43 +16,13 @@ pub struct NoteList {
 }
 
 /// The record of a list, or an unused one; the link is for the unused.
-#[derive(Clone, Copy, PartialEq, Eq, Debug)]
-pub struct Head {
-    list: Option<NoteList>,
-    next: u16,
-}
+pub type Head = Linked<Option<NoteList>>;
 
-impl Head {
-    pub const UNUSED: Head = Head {
-        list: None,
+impl Linked<Option<NoteList>> {
+    pub const UNUSED: Head = Linked {
+        content: None,
         next: 0,
     };
-}
-
-impl Link for Head {
-    type Rest = Option<NoteList>;
-
-    ghost link = { λ h. h.next };
-
-    ghost linked = { λ h v. record { list = h.list; next = v } };
-
-    ghost rest = { λ h. h.list };
-
-    ghost reads = { λ x v. refl };
-
-    ghost again = { λ x v w. refl };
-
-    ghost keeps = { λ x. refl };
-
-    ghost others = { λ x v. refl };
-
-    fn next(&self) -> u16 {
-        self.next
-    }
-
-    fn set_next(&mut self, next: u16) {
-        self.next = next;
-    }
 }
 
 /// Where a list was found.
@@ -70,7 +39,7 @@ fn find_list(slots: &[Head], high: u16, spot: Spot) -> Option<Found>
     ensures finds { MatchOption result (Nowhere slots.now spot.side spot.offset) (λ f. At slots.now spot.side spot.offset f.head f.list) }
 {
     for (i, head) in slots[..usize::from(high)].iter().enumerate() {
-        if let Some(list) = head.list {
+        if let Some(list) = head.content {
             if list.spot == spot {
                 let head = i as u16 + 1;
                 return Some(Found { head, list });
@@ -86,7 +55,7 @@ fn clear(slots: &mut [Head])
     ensures length { length slots.new ≡ length slots.old }
 {
     for head in slots.iter_mut() {
-        head.list = None;
+        head.content = None;
     }
 }
 
@@ -100,7 +69,7 @@ fn take_head(slots: &mut [Head], first: u16, list: NoteList) -> u16
     let Some(slot) = chain::draw(slots, &mut free) else {
         unreachable()
     };
-    slots[slot as usize - 1].list = Some(list);
+    slots[slot as usize - 1].content = Some(list);
     free
 }
 
@@ -108,11 +77,11 @@ fn take_head(slots: &mut [Head], first: u16, list: NoteList) -> u16
 fn release(slots: &mut [Head], first: u16, head: u16)
     requires inside { Slot (length slots.old) head }
     requires off { Off (head_links slots.old) first head }
-    ensures records { slots.new ≡ set slots.old (head - 1) (record { list = None; next = first }) }
+    ensures records { slots.new ≡ set slots.old (head - 1) (record { content = None; next = first }) }
 {
     let mut free = first;
     chain::give_back(slots, &mut free, head);
-    slots[head as usize - 1].list = None;
+    slots[head as usize - 1].content = None;
 }
 
 /// The caller's records, where the chain of the unused ones begins, and the last slot that ever held a list, so that a
@@ -179,7 +148,7 @@ impl<'a> Heads<'a> {
         ensures records { self.new.slots.now ≡ with_list self.old.slots.now head (Some list) }
         ensures lender { SameLoan self.old.slots self.new.slots }
     {
-        self.slots[head as usize - 1].list = Some(list);
+        self.slots[head as usize - 1].content = Some(list);
     }
 
     /// Gives back the record of a list that has become empty.
@@ -187,7 +156,7 @@ impl<'a> Heads<'a> {
         requires inside { Slot (length self.old.slots.now) head }
         requires off { Off (head_links self.old.slots.now) self.old.free head }
         ensures free { self.new.free ≡ head }
-        ensures records { self.new.slots.now ≡ set self.old.slots.now (head - 1) (record { list = None; next = self.old.free }) }
+        ensures records { self.new.slots.now ≡ set self.old.slots.now (head - 1) (record { content = None; next = self.old.free }) }
         ensures lender { SameLoan self.old.slots self.new.slots }
     {
         let first = self.free;

@@ -3,48 +3,17 @@ ghost use Rattle.std.specs.Prelude.{◌≡◌, ℕ, ◌-◌, ◌<◌, List, map,
 ghost use Rattle.std.specs.List.{slice_get};
 ghost use Rattle.chain.specs.Chain.{room, Slot, link_at, Chain, slots_from, relinked, Beyond, SameLoan};
 ghost use Rattle.spliced.specs.Notes.{links, comments, comment_at, linked_note};
-ghost use Rattle.std.proofs.Common.{refl};
 
-use chain::Link;
+use crate::linked::Linked;
 
-/// A comment, and the slot of the next one in its list.
-#[derive(Clone, Copy, PartialEq, Eq, Debug)]
-pub struct Note {
-    comment: u32,
-    next: u16,
-}
+/// A comment; the link is the slot of the next one in its list.
+pub type Note = Linked<u32>;
 
-impl Note {
-    pub const UNUSED: Note = Note {
-        comment: 0,
+impl Linked<u32> {
+    pub const UNUSED: Note = Linked {
+        content: 0,
         next: 0,
     };
-}
-
-impl Link for Note {
-    type Rest = u32;
-
-    ghost link = { λ n. n.next };
-
-    ghost linked = { λ n v. record { comment = n.comment; next = v } };
-
-    ghost rest = { λ n. n.comment };
-
-    ghost reads = { λ x v. refl };
-
-    ghost again = { λ x v w. refl };
-
-    ghost keeps = { λ x. refl };
-
-    ghost others = { λ x v. refl };
-
-    fn next(&self) -> u16 {
-        self.next
-    }
-
-    fn set_next(&mut self, next: u16) {
-        self.next = next;
-    }
 }
 
 /// The caller's records, and where the chain of the unused ones begins.
@@ -90,7 +59,7 @@ impl<'a> Notes<'a> {
         requires { Slot (length self.old.slots.now) self.old.free }
         ensures slot { result ≡ self.old.free }
         ensures free { self.new.free ≡ link_at (links self.old.slots.now) result }
-        ensures records { self.new.slots.now ≡ set self.old.slots.now (result - 1) (record { comment = comment; next = 0 }) }
+        ensures records { self.new.slots.now ≡ set self.old.slots.now (result - 1) (record { content = comment; next = 0 }) }
         ensures lender { SameLoan self.old.slots self.new.slots }
     {
         let slot = self.free;
@@ -102,7 +71,7 @@ impl<'a> Notes<'a> {
     pub(crate) fn join(&mut self, last: u16, first: u16)
         requires { Slot (length self.old.slots.now) last }
         ensures free { self.new.free ≡ self.old.free }
-        ensures records { self.new.slots.now ≡ relinked linked_note self.old.slots.now last first (record { comment = 0; next = 0 }) }
+        ensures records { self.new.slots.now ≡ relinked linked_note self.old.slots.now last first (record { content = 0; next = 0 }) }
         ensures lender { SameLoan self.old.slots self.new.slots }
     {
         chain::link_to(self.slots, last, first);
@@ -113,13 +82,16 @@ impl<'a> Notes<'a> {
 fn take_note(slots: &mut [Note], first: u16, comment: u32) -> u16
     requires { Slot (length slots.old) first }
     ensures rest { result ≡ link_at (links slots.old) first }
-    ensures records { slots.new ≡ set slots.old (first - 1) (record { comment = comment; next = 0 }) }
+    ensures records { slots.new ≡ set slots.old (first - 1) (record { content = comment; next = 0 }) }
 {
     let mut free = first;
     let Some(slot) = chain::draw(slots, &mut free) else {
         unreachable()
     };
-    slots[slot as usize - 1] = Note { comment, next: 0 };
+    slots[slot as usize - 1] = Linked {
+        content: comment,
+        next: 0,
+    };
     free
 }
 
@@ -131,5 +103,5 @@ fn comment_at(slots: &[Note], first: u16, rank: usize) -> Option<u32>
     for _ in 0..rank {
         at = chain::next_of(slots, at)?;
     }
-    Some(chain::record_at(slots, at)?.comment)
+    Some(chain::record_at(slots, at)?.content)
 }

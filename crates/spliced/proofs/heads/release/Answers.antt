@@ -1,15 +1,15 @@
 use Rattle.std.proofs.Common.{◌≡◌, ℕ, ◌-◌, ◌<◌, List, length, get_or, set, None, ap, ◌∙◌, arith}
 use Rattle.std.proofs.lemmas.List.{get_or-set_same, set-set}
-use Rattle.spliced.specs.declared.heads.Head.{Head}
+use Rattle.spliced.specs.Heads.{Head}
 use Rattle.spliced.specs.Heads.{blank}
 use Rattle.spliced.proofs.heads.release.Goals as goal
 
 -- a record that was written, its list then taken out
-unlisted : (s t : List Head) (i : ℕ) (x : Head) → i < length s → t ≡ set s i x → set t i (record { list = None; next = (get_or t i blank).next }) ≡ set s i (record { list = None; next = x.next })
+unlisted : (s t : List Head) (i : ℕ) (x : Head) → i < length s → t ≡ set s i x → set t i (record { content = None; next = (get_or t i blank).next }) ≡ set s i (record { content = None; next = x.next })
 unlisted s t i x l e =
-    ap (λ (u : List Head). set u i (record { list = None; next = (get_or u i blank).next })) e
-    ∙ set-set s i x (record { list = None; next = (get_or (set s i x) i blank).next })
-    ∙ ap (λ (h : Head). set s i (record { list = None; next = h.next })) (get_or-set_same s i x blank l)
+    ap (λ (u : List Head). set u i (record { content = None; next = (get_or u i blank).next })) e
+    ∙ set-set s i x (record { content = None; next = (get_or (set s i x) i blank).next })
+    ∙ ap (λ (h : Head). set s i (record { content = None; next = h.next })) (get_or-set_same s i x blank l)
 
 pub returns : goal.returns
 returns c =

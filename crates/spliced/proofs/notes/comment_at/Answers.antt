@@ -1,6 +1,6 @@
 use Rattle.std.proofs.Common.{ℕ, ◌+◌, Some, ap, sym, ◌∙◌, subst, arith}
 use Rattle.chain.proofs.Records.{slot_links, slot_records, link_read}
-use Rattle.spliced.specs.declared.notes.Note.{Note}
+use Rattle.spliced.specs.Notes.{Note}
 use Rattle.spliced.specs.Notes.{links, comments, comment_at}
 use Rattle.spliced.proofs.Reading.{Left, left_none, left_more, left_off, left_on}
 use Rattle.spliced.proofs.notes.comment_at.Goals as goal
@@ -39,7 +39,7 @@ returns c =
     let p = c.in_ok-record_at.ensures in
     let r = c.in_ok-record_at.field-0.now in
     λ ks h.
-    ap Some (sym (link_read (λ (n : Note). n.comment) c.args.slots.now c.loop.at r p.0 (p.1 r)))
+    ap Some (sym (link_read (λ (n : Note). n.content) c.args.slots.now c.loop.at r p.0 (p.1 r)))
     ∙ sym (left_on (links c.args.slots.now) c.args.first c.loop.at c.args.rank (comment_at (comments c.args.slots.now)) (slot_links (λ (n : Note). n.next) c.args.slots.now c.loop.at p.0)
     (subst (λ (i : ℕ). Left (links c.args.slots.now) c.args.first c.loop.at i) (omega arith) c.loop.invariant)
     ks h)
