@@ -9,11 +9,10 @@ use Rattle.comments.proofs.Parts.{same_sides, same_self}
 use Rattle.chain.specs.Chain.{room, link_at, Chain, times}
 use Rattle.chain.proofs.Counting.{is_same}
 use Rattle.chain.proofs.Laws.{chain_short}
-use Rattle.spliced.specs.Notes.{Note}
 use Rattle.spliced.specs.declared.heads.NoteList.{NoteList}
-use Rattle.spliced.specs.Heads.{Head}
-use Rattle.spliced.specs.Notes.{links, comments, comment_at}
-use Rattle.spliced.specs.Heads.{head_links, blank, list_at, key, walk, first_of, held, listed}
+use Rattle.spliced.specs.Linked.{links}
+use Rattle.spliced.specs.Notes.{Note, comments, comment_at}
+use Rattle.spliced.specs.Heads.{Head, blank, list_at, key, walk, first_of, held, listed}
 use Rattle.spliced.specs.Layout.{Fit, Layout}
 
 pub record Means (cs : List ℕ) (n : ℕ) (ls : ℕ → Option NoteList) (owned : List (List ℕ)) (f : Lists) : Type 0 where
@@ -53,10 +52,10 @@ held_none cs m (h ∷ hs) side k none =
     ∙ held_none cs m hs side k (λ i q. none (suc i) (omega arith))
 
 -- the records mean what their layout says
-pub means : (notes : List Note) (heads : List Head) (fn fh n : ℕ) (owned : List (List ℕ)) (ns hs : List ℕ) → Layout (links notes) (head_links heads) (list_at heads) fn fh n owned ns hs [] → Means (comments notes) (room (length heads)) (list_at heads) owned (listed notes heads)
+pub means : (notes : List Note) (heads : List Head) (fn fh n : ℕ) (owned : List (List ℕ)) (ns hs : List ℕ) → Layout (links notes) (links heads) (list_at heads) fn fh n owned ns hs [] → Means (comments notes) (room (length heads)) (list_at heads) owned (listed notes heads)
 means notes heads fn fh n owned ns hs y = record { located = there; missing = nowhere }
   where
-    same_room : room (length (head_links heads)) ≡ room (length heads)
+    same_room : room (length (links heads)) ≡ room (length heads)
     same_room = ap room (length-map heads (λ (h : Head). h.next))
 
     long : length (take (room (length heads)) heads) ≡ room (length heads)

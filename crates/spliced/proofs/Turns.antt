@@ -6,13 +6,12 @@ use Rattle.comments.specs.declared.store.Side.TheVariants.{Leading, Trailing}
 use Rattle.comments.specs.Lists.{shifted, added}
 use Rattle.chain.specs.Chain.{room, Slot, link_at, Chain, Off, times, relinked, Beyond}
 use Rattle.chain.proofs.Records.{beyond_set, beyond_more}
-use Rattle.spliced.specs.Notes.{Note}
 use Rattle.spliced.specs.declared.heads.NoteList.{NoteList}
-use Rattle.spliced.specs.Heads.{Head}
-use Rattle.spliced.specs.Notes.{links, linked_note}
-use Rattle.spliced.specs.Heads.{head_links, blank, list_at, with_list, At, Nowhere, front_of, listed}
+use Rattle.spliced.specs.Linked.{links}
+use Rattle.spliced.specs.Notes.{Note, linked_note}
+use Rattle.spliced.specs.Heads.{Head, blank, list_at, with_list, At, Nowhere, front_of, listed}
 use Rattle.spliced.specs.Layout.{Layout, Laid}
-use Rattle.spliced.proofs.Records.{head_links_held}
+use Rattle.spliced.proofs.Records.{links_held}
 use Rattle.spliced.proofs.Whole.{slot_from, none_from, last_note, not_unused, free_note, free_head}
 use Rattle.spliced.proofs.Calls.{relabelled_all, joined_all}
 use Rattle.spliced.proofs.Adding.{put_last, put_first}
@@ -43,12 +42,12 @@ front_slot notes heads fn fh held side from to sh th a b l p q e h =
     ends Trailing u v = v
 
 -- the head of a list that was found may be given back, also after another head was written
-pub may_give_back : (notes : List Note) (heads heads₁ : List Head) (fn fh fh₁ held : ℕ) (side : Side) (from sh th : ℕ) (a : NoteList) (o : Option NoteList) → At heads side from sh a → heads₁ ≡ with_list heads th o → fh₁ ≡ fh → ∥ Laid notes heads fn fh held ∥₁ → Off (head_links heads₁) fh₁ sh
+pub may_give_back : (notes : List Note) (heads heads₁ : List Head) (fn fh fh₁ held : ℕ) (side : Side) (from sh th : ℕ) (a : NoteList) (o : Option NoteList) → At heads side from sh a → heads₁ ≡ with_list heads th o → fh₁ ≡ fh → ∥ Laid notes heads fn fh held ∥₁ → Off (links heads₁) fh₁ sh
 may_give_back notes heads heads₁ fn fh fh₁ held side from sh th a o p e d h ks c =
     none_from (times sh ks) h
     (λ y. not_unused notes heads fn fh held side from sh a p y ks
-    (subst (λ (x : ℕ). Chain (head_links heads) x ks) d
-    (subst (λ (m : List ℕ). Chain m fh₁ ks) (ap head_links e ∙ head_links_held heads th o) c)))
+    (subst (λ (x : ℕ). Chain (links heads) x ks) d
+    (subst (λ (m : List ℕ). Chain m fh₁ ks) (ap links e ∙ links_held heads th o) c)))
 
 pub still_slot : (heads heads₁ : List Head) (k th : ℕ) (o : Option NoteList) → heads₁ ≡ with_list heads th o → Slot (length heads) k → Slot (length heads₁) k
 still_slot heads heads₁ k th o e s =
@@ -157,8 +156,8 @@ pub grow :
 grow notes notes₁ notes' heads heads' fn fn₁ fn' fh fh' held note side k th c b d r found e d₁ e₁ e' d' eh dh p =
     let s = free_note notes heads fn fh held (omega arith) p in
     let f = first_of_chain (links notes) fn p.1 s.0 p.3.notes in
-    let y : Layout (links notes) (head_links heads) (list_at heads) fn fh held p.0 (fn ∷ f.0) p.2 [] =
-    subst (λ (ks : List ℕ). Layout (links notes) (head_links heads) (list_at heads) fn fh held p.0 ks p.2 []) f.1 p.3
+    let y : Layout (links notes) (links heads) (list_at heads) fn fh held p.0 (fn ∷ f.0) p.2 [] =
+    subst (λ (ks : List ℕ). Layout (links notes) (links heads) (list_at heads) fn fh held p.0 ks p.2 []) f.1 p.3
     in
     let q =
     put_last notes heads fn fh held c p.0 f.0 p.2 y notes' heads' side k th b (record { spot = b.spot; first = b.first; last = note }) d found refl e refl
@@ -181,23 +180,23 @@ pub begin :
     → note ≡ fn
     → fn' ≡ link_at (links notes) note
     → notes' ≡ set notes (note - 1) (record { content = c; next = 0 })
-    → heads' ≡ with_list heads fh (Some (record { spot = record { side = side; offset = k }; first = note; last = note }))
-    → fh' ≡ link_at (head_links heads) fh
+    → heads' ≡ set heads (fh - 1) (record { content = Some (record { spot = record { side = side; offset = k }; first = note; last = note }); next = 0 })
+    → fh' ≡ link_at (links heads) fh
     → Laid notes heads fn fh held
     → Laid notes' heads' fn' fh' (held + 1) × ((at : Side) (j : ℕ) → listed notes' heads' at j ≡ added (listed notes heads) side k c at j)
 begin notes notes' heads heads' fn fn' fh fh' held note side k c r none e d' e' eh dh p =
     let s = free_note notes heads fn fh held (omega arith) p in
     let t = free_head notes heads fn fh held (omega arith) p in
     let f = first_of_chain (links notes) fn p.1 s.0 p.3.notes in
-    let g = first_of_chain (head_links heads) fh p.2 t.0 p.3.heads in
-    let y : Layout (links notes) (head_links heads) (list_at heads) fn fh held p.0 (fn ∷ f.0) (fh ∷ g.0) [] =
-    subst (λ (ks : List ℕ). Layout (links notes) (head_links heads) (list_at heads) fn fh held p.0 (fn ∷ f.0) ks []) g.1
-    (subst (λ (ks : List ℕ). Layout (links notes) (head_links heads) (list_at heads) fn fh held p.0 ks p.2 []) f.1 p.3)
+    let g = first_of_chain (links heads) fh p.2 t.0 p.3.heads in
+    let y : Layout (links notes) (links heads) (list_at heads) fn fh held p.0 (fn ∷ f.0) (fh ∷ g.0) [] =
+    subst (λ (ks : List ℕ). Layout (links notes) (links heads) (list_at heads) fn fh held p.0 (fn ∷ f.0) ks []) g.1
+    (subst (λ (ks : List ℕ). Layout (links notes) (links heads) (list_at heads) fn fh held p.0 ks p.2 []) f.1 p.3)
     in
     let q =
     put_first notes notes' heads heads' fn fh held c p.0 f.0 g.0 side k y none
     (e' ∙ ap (λ (x : ℕ). set notes (x - 1) (record { content = c; next = 0 })) e)
-    (eh ∙ ap (λ (x : ℕ). with_list heads fh (Some (record { spot = record { side = side; offset = k }; first = x; last = x }))) e)
+    (eh ∙ ap (λ (x : ℕ). set heads (fh - 1) (record { content = Some (record { spot = record { side = side; offset = k }; first = x; last = x }); next = 0 })) e)
     in (
       subst (λ (x : ℕ). Laid notes' heads' x fh' (held + 1)) (sym (d' ∙ ap (link_at (links notes)) e)) (subst (λ (x : ℕ). Laid notes' heads' (link_at (links notes) fn) x (held + 1)) (sym dh) q.0),
       q.1,

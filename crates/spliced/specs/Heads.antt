@@ -1,7 +1,6 @@
 -- The records of lists.
 --
 --   Head            the record of a list
---   head_links s    the links of the records
 --   list_at s i     what the record at index i holds: a list, or none where the record is unused
 --   with_list s k o  the records s, that of slot k holding o
 --   key side k o    whether o is the list on a side at the offset k
@@ -19,13 +18,11 @@ use Rattle.comments.specs.Lists.{same, Lists}
 use Rattle.chain.specs.Chain.{room, Slot, link_at}
 use Rattle.spliced.specs.declared.heads.NoteList.{NoteList}
 use Rattle.spliced.specs.declared.linked.Linked.{Linked}
-use Rattle.spliced.specs.Notes.{Note, links, comments, comment_at}
+use Rattle.spliced.specs.Linked.{links}
+use Rattle.spliced.specs.Notes.{Note, comments, comment_at}
 
 abbrev pub Head : Type 0
 Head = Linked (Option NoteList)
-
-abbrev pub head_links : List Head → List ℕ
-head_links s = map (λ h. h.next) s
 
 abbrev pub blank : Head
 blank = record { content = None; next = 0 }

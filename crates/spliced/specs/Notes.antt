@@ -1,8 +1,7 @@
 -- The records of comments, as lists of numbers.
 --
 --   Note             the record of a comment
---   links s          the links of the records
---   comments s       their comments
+--   comments s       the comments of the records
 --   comment_at cs k  the comment of slot k, where cs has the comments of all records
 --   linked_note n v  the record with another link
 --
@@ -12,9 +11,6 @@ use Rattle.spliced.specs.declared.linked.Linked.{Linked}
 
 abbrev pub Note : Type 0
 Note = Linked ℕ
-
-abbrev pub links : List Note → List ℕ
-links s = map (λ n. n.next) s
 
 abbrev pub comments : List Note → List ℕ
 comments s = map (λ n. n.content) s

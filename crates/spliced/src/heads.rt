@@ -1,10 +1,11 @@
 // The records of lists: one for each list that is not empty, which says where the chain of its comments begins and ends.
-ghost use Rattle.std.specs.Prelude.{◌≡◌, ℕ, ◌-◌, ◌<◌, ◌≤◌, true, false, List, map, length, set, IfSome, Some, None, MatchOption};
+ghost use Rattle.std.specs.Prelude.{◌≡◌, ℕ, ◌-◌, ◌<◌, ◌≤◌, length, set, IfSome, Some, None, MatchOption};
 ghost use Rattle.chain.specs.Chain.{room, Slot, link_at, Chain, Off, slots_from, Beyond, SameLoan};
-ghost use Rattle.spliced.specs.Heads.{head_links, list_at, with_list, key, At, Nowhere};
+ghost use Rattle.spliced.specs.Linked.{links};
+ghost use Rattle.spliced.specs.Heads.{list_at, with_list, At, Nowhere};
 ghost use Rattle.spliced.specs.Layout.{Idle};
 
-use crate::linked::Linked;
+use crate::linked::{Linked, take};
 use comments::Spot;
 
 /// A list: where it stands, and the slots of its first and its last comment.
@@ -59,24 +60,10 @@ fn clear(slots: &mut [Head])
     }
 }
 
-/// Takes the first slot off the chain of unused records, for a list; answers where the chain goes on.
-fn take_head(slots: &mut [Head], first: u16, list: NoteList) -> u16
-    requires { Slot (length slots.old) first }
-    ensures rest { result ≡ link_at (head_links slots.old) first }
-    ensures records { slots.new ≡ with_list slots.old first (Some list) }
-{
-    let mut free = first;
-    let Some(slot) = chain::draw(slots, &mut free) else {
-        unreachable()
-    };
-    slots[slot as usize - 1].content = Some(list);
-    free
-}
-
 /// Gives the record of a list that has become empty back to the chain of unused records, which then begins there.
 fn release(slots: &mut [Head], first: u16, head: u16)
     requires inside { Slot (length slots.old) head }
-    requires off { Off (head_links slots.old) first head }
+    requires off { Off (links slots.old) first head }
     ensures records { slots.new ≡ set slots.old (head - 1) (record { content = None; next = first }) }
 {
     let mut free = first;
@@ -97,7 +84,7 @@ pub(crate) struct Heads<'a> {
 impl<'a> Heads<'a> {
     /// All records unused.
     pub(crate) fn new(slots: &'a mut [Head]) -> Self
-        ensures chain { Chain (head_links result.slots.now) result.free (slots_from 1 (room (length slots.old))) }
+        ensures chain { Chain (links result.slots.now) result.free (slots_from 1 (room (length slots.old))) }
         ensures unused { (i : ℕ) → i < room (length slots.old) → list_at result.slots.now i ≡ None }
         ensures beyond { Beyond slots.old result.slots.now }
         ensures lender { SameLoan slots.entry result.slots }
@@ -112,12 +99,6 @@ impl<'a> Heads<'a> {
         }
     }
 
-    pub(crate) fn last_slot(&self) -> u16
-        ensures { result ≡ room (length self.now.slots.now) }
-    {
-        chain::last_slot(self.slots)
-    }
-
     /// The record of the list at a spot.
     pub(crate) fn find(&self, spot: Spot) -> Option<Found>
         ensures high { IfSome result (λ f. f.head ≤ self.now.high) }
@@ -130,13 +111,13 @@ impl<'a> Heads<'a> {
     /// Takes an unused record for a list.
     pub(crate) fn draw(&mut self, list: NoteList)
         requires slot { Slot (length self.old.slots.now) self.old.free }
-        ensures free { self.new.free ≡ link_at (head_links self.old.slots.now) self.old.free }
-        ensures records { self.new.slots.now ≡ with_list self.old.slots.now self.old.free (Some list) }
+        ensures free { self.new.free ≡ link_at (links self.old.slots.now) self.old.free }
+        ensures records { self.new.slots.now ≡ set self.old.slots.now (self.old.free - 1) (record { content = Some list; next = 0 }) }
         ensures lender { SameLoan self.old.slots self.new.slots }
     {
         let first = self.free;
         self.high = self.high.max(first);
-        self.free = take_head(self.slots, first, list);
+        self.free = take(self.slots, first, Some(list));
     }
 
     /// Lets a record hold another list.
@@ -154,7 +135,7 @@ impl<'a> Heads<'a> {
     /// Gives back the record of a list that has become empty.
     pub(crate) fn give_back(&mut self, head: u16)
         requires inside { Slot (length self.old.slots.now) head }
-        requires off { Off (head_links self.old.slots.now) self.old.free head }
+        requires off { Off (links self.old.slots.now) self.old.free head }
         ensures free { self.new.free ≡ head }
         ensures records { self.new.slots.now ≡ set self.old.slots.now (head - 1) (record { content = None; next = self.old.free }) }
         ensures lender { SameLoan self.old.slots self.new.slots }

@@ -1,4 +1,7 @@
 // The records that the caller lends: each holds something, and leads to another.
+ghost use Rattle.std.specs.Prelude.{◌≡◌, ◌-◌, length, set};
+ghost use Rattle.chain.specs.Chain.{Slot, link_at};
+ghost use Rattle.spliced.specs.Linked.{links};
 ghost use Rattle.std.proofs.Common.{refl};
 
 use chain::Link;
@@ -34,4 +37,18 @@ impl<T> Link for Linked<T> {
     fn set_next(&mut self, next: u16) {
         self.next = next;
     }
+}
+
+/// Takes the first slot off the chain of unused records, for what it is to hold; answers where the chain goes on.
+pub(crate) fn take<T: Copy>(slots: &mut [Linked<T>], first: u16, content: T) -> u16
+    requires { Slot (length slots.old) first }
+    ensures rest { result ≡ link_at (links slots.old) first }
+    ensures records { slots.new ≡ set slots.old (first - 1) (record { content = content; next = 0 }) }
+{
+    let mut free = first;
+    let Some(slot) = chain::draw(slots, &mut free) else {
+        unreachable()
+    };
+    slots[slot as usize - 1] = Linked { content, next: 0 };
+    free
 }

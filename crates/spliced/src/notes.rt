@@ -1,10 +1,11 @@
 // The records of comments: each list of comments is a chain of them, and so are those that are unused.
-ghost use Rattle.std.specs.Prelude.{◌≡◌, ℕ, ◌-◌, ◌<◌, List, map, length, set, MatchOption};
+ghost use Rattle.std.specs.Prelude.{◌≡◌, ℕ, ◌-◌, ◌<◌, List, map, length, set};
 ghost use Rattle.std.specs.List.{slice_get};
 ghost use Rattle.chain.specs.Chain.{room, Slot, link_at, Chain, slots_from, relinked, Beyond, SameLoan};
-ghost use Rattle.spliced.specs.Notes.{links, comments, comment_at, linked_note};
+ghost use Rattle.spliced.specs.Linked.{links};
+ghost use Rattle.spliced.specs.Notes.{comments, comment_at, linked_note};
 
-use crate::linked::Linked;
+use crate::linked::{Linked, take};
 
 /// A comment; the link is the slot of the next one in its list.
 pub type Note = Linked<u32>;
@@ -34,12 +35,6 @@ impl<'a> Notes<'a> {
         Notes { slots, free }
     }
 
-    pub(crate) fn last_slot(&self) -> u16
-        ensures { result ≡ room (length self.now.slots.now) }
-    {
-        chain::last_slot(self.slots)
-    }
-
     /// How many comments the list that begins at `first` has.
     pub(crate) fn count(&self, first: u16) -> usize
         ensures { (ks : List ℕ) → Chain (links self.now.slots.now) first ks → result ≡ length ks }
@@ -63,7 +58,7 @@ impl<'a> Notes<'a> {
         ensures lender { SameLoan self.old.slots self.new.slots }
     {
         let slot = self.free;
-        self.free = take_note(self.slots, slot, comment);
+        self.free = take(self.slots, slot, comment);
         slot
     }
 
@@ -76,23 +71,6 @@ impl<'a> Notes<'a> {
     {
         chain::link_to(self.slots, last, first);
     }
-}
-
-/// Takes the first slot off the chain of unused records, for a comment that ends its list; answers where the chain goes on.
-fn take_note(slots: &mut [Note], first: u16, comment: u32) -> u16
-    requires { Slot (length slots.old) first }
-    ensures rest { result ≡ link_at (links slots.old) first }
-    ensures records { slots.new ≡ set slots.old (first - 1) (record { content = comment; next = 0 }) }
-{
-    let mut free = first;
-    let Some(slot) = chain::draw(slots, &mut free) else {
-        unreachable()
-    };
-    slots[slot as usize - 1] = Linked {
-        content: comment,
-        next: 0,
-    };
-    free
 }
 
 /// The comment at a rank of the list that begins at `first`; none past its end.

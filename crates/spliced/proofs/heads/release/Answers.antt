@@ -1,7 +1,6 @@
 use Rattle.std.proofs.Common.{◌≡◌, ℕ, ◌-◌, ◌<◌, List, length, get_or, set, None, ap, ◌∙◌, arith}
 use Rattle.std.proofs.lemmas.List.{get_or-set_same, set-set}
-use Rattle.spliced.specs.Heads.{Head}
-use Rattle.spliced.specs.Heads.{blank}
+use Rattle.spliced.specs.Heads.{Head, blank}
 use Rattle.spliced.proofs.heads.release.Goals as goal
 
 -- a record that was written, its list then taken out

@@ -1,7 +1,7 @@
 use Rattle.std.proofs.Common.{ℕ, ◌+◌, Some, ap, sym, ◌∙◌, subst, arith}
 use Rattle.chain.proofs.Records.{slot_links, slot_records, link_read}
-use Rattle.spliced.specs.Notes.{Note}
-use Rattle.spliced.specs.Notes.{links, comments, comment_at}
+use Rattle.spliced.specs.Linked.{links}
+use Rattle.spliced.specs.Notes.{Note, comments, comment_at}
 use Rattle.spliced.proofs.Reading.{Left, left_none, left_more, left_off, left_on}
 use Rattle.spliced.proofs.notes.comment_at.Goals as goal
 

@@ -1,4 +1,4 @@
-use Rattle.spliced.specs.Notes.{links}
+use Rattle.spliced.specs.Linked.{links}
 use Rattle.spliced.proofs.Reading.{Left}
 use Rattle.spliced.proofs.notes.comment_at.Given as goal
 
