@@ -33,23 +33,6 @@ pub(crate) struct Found {
     pub(crate) list: NoteList,
 }
 
-/// The record of the list at a spot, where no record past `high` holds one.
-fn find_list(slots: &[Head], high: u16, spot: Spot) -> Option<Found>
-    requires { Idle slots.now high }
-    ensures high { IfSome result (λ f. f.head ≤ high) }
-    ensures finds { MatchOption result (Nowhere slots.now spot.side spot.offset) (λ f. At slots.now spot.side spot.offset f.head f.list) }
-{
-    for (i, head) in slots[..usize::from(high)].iter().enumerate() {
-        if let Some(list) = head.content {
-            if list.spot == spot {
-                let head = i as u16 + 1;
-                return Some(Found { head, list });
-            }
-        }
-    }
-    None
-}
-
 /// Makes every record an unused one.
 fn clear(slots: &mut [Head])
     ensures unused { (i : ℕ) → list_at slots.new i ≡ None }
@@ -104,8 +87,15 @@ impl<'a> Heads<'a> {
         ensures high { IfSome result (λ f. f.head ≤ self.now.high) }
         ensures finds { MatchOption result (Nowhere self.now.slots.now spot.side spot.offset) (λ f. At self.now.slots.now spot.side spot.offset f.head f.list) }
     {
-        let high = self.high;
-        find_list(self.slots, high, spot)
+        for (i, head) in self.slots[..usize::from(self.high)].iter().enumerate() {
+            if let Some(list) = head.content {
+                if list.spot == spot {
+                    let head = i as u16 + 1;
+                    return Some(Found { head, list });
+                }
+            }
+        }
+        None
     }
 
     /// Takes an unused record for a list.

@@ -46,7 +46,11 @@ impl<'a> Notes<'a> {
     pub(crate) fn comment(&self, first: u16, rank: usize) -> Option<u32>
         ensures { (ks : List ℕ) → Chain (links self.now.slots.now) first ks → result ≡ slice_get (map (comment_at (comments self.now.slots.now)) ks) rank }
     {
-        comment_at(self.slots, first, rank)
+        let mut at = first;
+        for _ in 0..rank {
+            at = chain::next_of(self.slots, at)?;
+        }
+        Some(chain::record_at(self.slots, at)?.content)
     }
 
     /// Takes an unused record for a comment that ends its list.
@@ -71,15 +75,4 @@ impl<'a> Notes<'a> {
     {
         chain::link_to(self.slots, last, first);
     }
-}
-
-/// The comment at a rank of the list that begins at `first`; none past its end.
-fn comment_at(slots: &[Note], first: u16, rank: usize) -> Option<u32>
-    ensures { (ks : List ℕ) → Chain (links slots.now) first ks → result ≡ slice_get (map (comment_at (comments slots.now)) ks) rank }
-{
-    let mut at = first;
-    for _ in 0..rank {
-        at = chain::next_of(slots, at)?;
-    }
-    Some(chain::record_at(slots, at)?.content)
 }
