@@ -43,17 +43,6 @@ fn clear(slots: &mut [Head])
     }
 }
 
-/// Gives the record of a list that has become empty back to the chain of unused records, which then begins there.
-fn release(slots: &mut [Head], first: u16, head: u16)
-    requires inside { Slot (length slots.old) head }
-    requires off { Off (links slots.old) first head }
-    ensures records { slots.new ≡ set slots.old (head - 1) (record { content = None; next = first }) }
-{
-    let mut free = first;
-    chain::give_back(slots, &mut free, head);
-    slots[head as usize - 1].content = None;
-}
-
 /// The caller's records, where the chain of the unused ones begins, and the last slot that ever held a list, so that a
 /// search need not go beyond.
 #[derive(Drop)]
@@ -105,9 +94,8 @@ impl<'a> Heads<'a> {
         ensures records { self.new.slots.now ≡ set self.old.slots.now (self.old.free - 1) (record { content = Some list; next = 0 }) }
         ensures lender { SameLoan self.old.slots self.new.slots }
     {
-        let first = self.free;
-        self.high = self.high.max(first);
-        self.free = take(self.slots, first, Some(list));
+        let head = take(self.slots, &mut self.free, Some(list));
+        self.high = self.high.max(head);
     }
 
     /// Lets a record hold another list.
@@ -130,8 +118,7 @@ impl<'a> Heads<'a> {
         ensures records { self.new.slots.now ≡ set self.old.slots.now (head - 1) (record { content = None; next = self.old.free }) }
         ensures lender { SameLoan self.old.slots self.new.slots }
     {
-        let first = self.free;
-        release(self.slots, first, head);
-        self.free = head;
+        chain::give_back(self.slots, &mut self.free, head);
+        self.slots[head as usize - 1].content = None;
     }
 }

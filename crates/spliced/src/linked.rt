@@ -39,16 +39,16 @@ impl<T> Link for Linked<T> {
     }
 }
 
-/// Takes the first slot off the chain of unused records, for what it is to hold; answers where the chain goes on.
-pub(crate) fn take<T: Copy>(slots: &mut [Linked<T>], first: u16, content: T) -> u16
-    requires { Slot (length slots.old) first }
-    ensures rest { result ≡ link_at (links slots.old) first }
-    ensures records { slots.new ≡ set slots.old (first - 1) (record { content = content; next = 0 }) }
+/// Takes the first slot off the chain of unused records, for what it is to hold.
+pub(crate) fn take<T: Copy>(slots: &mut [Linked<T>], free: &mut u16, content: T) -> u16
+    requires { Slot (length slots.old) free.old }
+    ensures slot { result ≡ free.old }
+    ensures rest { free.new ≡ link_at (links slots.old) free.old }
+    ensures records { slots.new ≡ set slots.old (free.old - 1) (record { content = content; next = 0 }) }
 {
-    let mut free = first;
-    let Some(slot) = chain::draw(slots, &mut free) else {
+    let Some(slot) = chain::draw(slots, free) else {
         unreachable()
     };
     slots[slot as usize - 1] = Linked { content, next: 0 };
-    free
+    slot
 }

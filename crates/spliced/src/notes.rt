@@ -61,9 +61,7 @@ impl<'a> Notes<'a> {
         ensures records { self.new.slots.now ≡ set self.old.slots.now (result - 1) (record { content = comment; next = 0 }) }
         ensures lender { SameLoan self.old.slots self.new.slots }
     {
-        let slot = self.free;
-        self.free = take(self.slots, slot, comment);
-        slot
+        take(self.slots, &mut self.free, comment)
     }
 
     /// Leads the list that ends at `last` on to the one that begins at `first`.
