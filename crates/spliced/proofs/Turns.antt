@@ -1,15 +1,15 @@
 -- The steps of a call put together, over plain values.
-use Rattle.std.proofs.Common.{◌≡◌, ℕ, ◌+◌, ◌-◌, ◌<◌, min, List, [], ◌∷◌, length, get_or, set, Some, None, Option, sym, refl, ap, ◌∙◌, subst, arith, length-set}
+use Rattle.std.proofs.Common.{◌≡◌, ℕ, ◌+◌, ◌-◌, ◌<◌, min, List, [], ◌∷◌, length, set, Some, None, Option, sym, refl, ap, ◌∙◌, subst, arith, length-set}
 use Rattle.comments.specs.declared.store.Side.{Side}
 use Rattle.comments.specs.declared.store.Spot.{Spot}
 use Rattle.comments.specs.declared.store.Side.TheVariants.{Leading, Trailing}
 use Rattle.comments.specs.Lists.{shifted, added}
 use Rattle.chain.specs.Chain.{room, Slot, link_at, Chain, Off, times, relinked, Beyond}
-use Rattle.chain.proofs.Records.{beyond_set, beyond_more}
+use Rattle.chain.proofs.Records.{beyond_set}
 use Rattle.spliced.specs.declared.heads.NoteList.{NoteList}
 use Rattle.spliced.specs.Linked.{links}
 use Rattle.spliced.specs.Notes.{Note, linked_note}
-use Rattle.spliced.specs.Heads.{Head, blank, list_at, with_list, At, Nowhere, front_of, listed}
+use Rattle.spliced.specs.Heads.{Head, list_at, with_list, At, Nowhere, front_of, listed}
 use Rattle.spliced.specs.Layout.{Layout, Laid}
 use Rattle.spliced.proofs.Records.{links_held}
 use Rattle.spliced.proofs.Whole.{slot_from, none_from, last_note, not_unused, free_note, free_head}
@@ -19,11 +19,6 @@ use Rattle.spliced.proofs.Adding.{put_last, put_first}
 -- a write at a slot leaves the records that have none
 pub beyond_written : {X : Type 0} (s t : List X) (k : ℕ) (x : X) → Slot (length s) k → t ≡ set s (k - 1) x → Beyond s t
 beyond_written s t k x h e = subst (λ (u : List _). Beyond s u) (sym e) (beyond_set s k x h)
-
-pub beyond_twice : {X : Type 0} (s t u : List X) (k j : ℕ) (x y : X) → Slot (length s) k → Slot (length s) j → t ≡ set s (k - 1) x → u ≡ set t (j - 1) y → Beyond s u
-beyond_twice s t u k j x y p q e d =
-    let a : Beyond s t = beyond_written s t k x p e in
-    beyond_more s t u a (beyond_written t u j y (subst (λ (n : ℕ). Slot n j) (sym a.0) q) d)
 
 -- where a list was sought at a spot, it was sought on a side and at an offset
 pub found_at : (heads : List Head) (spot : Spot) (side : Side) (k slot : ℕ) (l : NoteList) → spot ≡ record { side = side; offset = k } → At heads spot.side spot.offset slot l → At heads side k slot l
@@ -48,10 +43,6 @@ may_give_back notes heads heads₁ fn fh fh₁ held side from sh th a o p e d h 
     (λ y. not_unused notes heads fn fh held side from sh a p y ks
     (subst (λ (x : ℕ). Chain (links heads) x ks) d
     (subst (λ (m : List ℕ). Chain m fh₁ ks) (ap links e ∙ links_held heads th o) c)))
-
-pub still_slot : (heads heads₁ : List Head) (k th : ℕ) (o : Option NoteList) → heads₁ ≡ with_list heads th o → Slot (length heads) k → Slot (length heads₁) k
-still_slot heads heads₁ k th o e s =
-    subst (λ (n : ℕ). Slot n k) (sym (ap length e ∙ length-set heads (th - 1) (record { content = o; next = (get_or heads (th - 1) blank).next }))) s
 
 -- a list relabelled, the chain of unused heads as it was
 pub relabel :
