@@ -1,5 +1,4 @@
 // One piece of work: a store is filled, and its comments are moved.
-use crate::fill::Fill;
 use comments::{Move, Place, Side, Store, carry};
 use register::{Entry, Register};
 use spliced::{Head, Note, Spliced};
@@ -31,19 +30,24 @@ pub fn measure(rt: &HostRuntime, work: Work) -> io::Result<()> {
 }
 
 fn moves_of(heap: Global, work: Work) -> Result<Vec<Move>, AllocError> {
-    let mut moves = Vec::new(heap);
-    for i in 0..work.moves {
-        let to = i.saturating_add(1);
-        moves.push(Move {
-            from: Place { lo: i, hi: i },
-            to: Place { lo: to, hi: to },
-        })?;
+    (0..work.moves)
+        .map(|i| Move {
+            from: point(i),
+            to: point(i.saturating_add(1)),
+        })
+        .collect(heap)
+}
+
+/// The place of nothing, at an offset.
+fn point(offset: u32) -> Place {
+    Place {
+        lo: offset,
+        hi: offset,
     }
-    Ok(moves)
 }
 
 /// Fills a store, makes the moves, and prints the time of both.
-fn run<S: Store + Fill>(
+fn run<S: Store>(
     rt: &HostRuntime,
     name: &str,
     store: &mut S,
@@ -57,8 +61,8 @@ fn run<S: Store + Fill>(
     carry(store, moves);
     let moved = begin.elapsed(rt)?.as_micros();
     let last = work.moves;
-    let leading = store.count(Side::Leading, last);
-    let trailing = store.count(Side::Trailing, last);
+    let leading = store.count(Side::Leading.at(last));
+    let trailing = store.count(Side::Trailing.at(last));
     let offsets = work.offsets;
     let number = moves.len();
     println!(rt;
@@ -70,7 +74,7 @@ fn run<S: Store + Fill>(
 }
 
 /// Gives every offset its comments, leading and trailing ones in turn, and answers how many the store took.
-fn fill_all<S: Fill>(store: &mut S, work: Work) -> u32 {
+fn fill_all<S: Store>(store: &mut S, work: Work) -> u32 {
     let mut held = 0u32;
     for offset in 0..work.offsets {
         for i in 0..work.each {
@@ -79,7 +83,7 @@ fn fill_all<S: Fill>(store: &mut S, work: Work) -> u32 {
             } else {
                 Side::Trailing
             };
-            if store.put(side, offset, held).is_ok() {
+            if store.add(side.at(offset), held).is_ok() {
                 held = held.saturating_add(1);
             }
         }
