@@ -27,7 +27,7 @@ impl<'a> Spliced<'a> {
     pub fn spare(&self) -> u16
         ensures { result ≡ spare self.now }
     {
-        let most = self.notes.last_slot().min(self.heads.last_slot());
+        let most = chain::last_slot(self.notes.slots).min(chain::last_slot(self.heads.slots));
         most.saturating_sub(self.held)
     }
 }
