@@ -4,7 +4,7 @@ use Rattle.std.proofs.lemmas.Bool.{eqb-true, cond-true, cond-false, cases_eq, ca
 use Rattle.comments.specs.declared.store.Side.{Side}
 use Rattle.comments.specs.declared.store.Side.TheVariants.{Leading, Trailing}
 use Rattle.comments.specs.Lists.{Lists, join, moved, shifted, same, added}
-use Rattle.comments.proofs.Joins.{moved_equal, moved_to, moved_from, moved_other}
+use Rattle.comments.proofs.Joins.{moved_to, moved_from, moved_other}
 
 -- two sides that pass the test are one side
 pub same_sides : (a b : Side) → same a b ≡ true → a ≡ b
@@ -57,18 +57,11 @@ shifted_parts side f g a b ne to from others there at k =
         subst (λ (x : Side). g x k ≡ shifted side f a b x k) (sym (same_sides at side e))
         (on_side k ∙ sym (shifted_here side f a b k))
 
--- a shift of equal offsets, or of an empty list, changes nothing
-pub shifted_equal : (side : Side) (f : Lists) (a b : ℕ) → a ≡ b → (at : Side) (k : ℕ) → f at k ≡ shifted side f a b at k
-shifted_equal side f a b e at k =
-    ⊎_elim
-    (λ s. subst (λ (x : Side). f x k ≡ shifted side f a b x k) (sym (same_sides at side s)) (sym (shifted_here side f a b k ∙ moved_equal side (f side) a b k e)))
-    (λ s. sym (shifted_there side at f a b k s))
-    (cases_Bool (same at side))
-
 join_none : (side : Side) (xs ys : List ℕ) → xs ≡ [] → ys ≡ join side xs ys
 join_none Leading xs ys e = ap (λ (z : List ℕ). z ++ ys) (sym e)
 join_none Trailing xs ys e = sym (append-nil ys) ∙ ap (λ (z : List ℕ). ys ++ z) (sym e)
 
+-- a shift of an empty list changes nothing
 pub shifted_empty : (side : Side) (f : Lists) (a b : ℕ) → (a ≡ b → ⊥) → f side a ≡ [] → (at : Side) (k : ℕ) → f at k ≡ shifted side f a b at k
 shifted_empty side f a b ne e =
     shifted_parts side f f a b ne (join_none side (f side a) (f side b) e) e (λ k na nb. refl) (λ at k s. refl)
