@@ -19,7 +19,7 @@ pub struct Rule {
 }
 
 /// Why a line is no rule.
-#[derive(Clone, Copy)]
+#[derive(Clone, Copy, PartialEq, Eq, Debug)]
 pub enum Fault {
     /// The word there is no token.
     Unknown(Place),

@@ -5,7 +5,7 @@ use std::io;
 use token::Token;
 
 /// Why a rule has no tokens.
-#[derive(Clone, Copy)]
+#[derive(Clone, Copy, PartialEq, Eq, Debug)]
 pub enum Fault {
     /// A word is no token.
     NoToken,
