@@ -1,4 +1,4 @@
-// What a record is called in an S-expression.
+// What a record is called in an S-expression: names of this format alone, so they are no `Display` of the kinds.
 use kinds::{Arguments, Entry, Form, Key, Link, Own, Side, Sort};
 use spelling::spelling_of;
 use token::{Code, Word};
