@@ -1,7 +1,7 @@
 -- From records to their links: what is read and what is written at a slot.
-use Rattle.std.proofs.Common.{◌≡◌, ℕ, ◌+◌, ◌-◌, ◌<◌, ◌≤◌, ltb, cond, ◌≢◌, ⊎_elim, List, [], ◌∷◌, map, length, get_or, drop, set, sym, refl, ap, ◌∙◌, subst, arith, length-set}
+use Rattle.std.proofs.Common.{◌≡◌, ℕ, ◌+◌, ◌-◌, ◌<◌, ◌≤◌, ltb, cond, ◌≢◌, ⊎_elim, List, [], ◌∷◌, map, length, get_or, drop, set, sym, ap, ◌∙◌, subst, arith, length-set}
 use Rattle.std.proofs.lemmas.List.{length-map, get_or-map, map-set, get_or-set_same, get_or-set_other, drop-set-lt}
-use Rattle.std.proofs.lemmas.Bool.{cases_eq, cond-true, cond-false, lt-ltb, le-ltb}
+use Rattle.std.proofs.lemmas.Bool.{cases_eq, cond-true, lt-ltb}
 use Rattle.chain.specs.Chain.{room, Slot, link_at, Chain, times, after, relinked, Beyond}
 use Rattle.chain.proofs.Laws.{chain_push}
 
@@ -44,9 +44,6 @@ given_back f g reads (x ∷ s) t h k ks sl off e c =
     (chain_push (map f (x ∷ s)) h k ks (slot_links f (x ∷ s) k sl) off c)
 
 -- writes at slots leave the records that have none
-pub beyond_none : {X : Type 0} (s : List X) → Beyond s s
-beyond_none s = (refl, refl)
-
 pub beyond_set : {X : Type 0} (s : List X) (k : ℕ) (x : X) → Slot (length s) k → Beyond s (set s (k - 1) x)
 beyond_set s k x h = (length-set s (k - 1) x, drop-set-lt (room (length s)) s (k - 1) x (omega (arith, h.0, h.1)))
 
@@ -64,15 +61,6 @@ pub record Made {X : Type 0} (g : X → ℕ → X) (s : List X) (n i h : ℕ) (t
   pub beyond : Beyond s t
 
 module _ {X : Type 0} (g : X → ℕ → X) (s : List X) (n : ℕ) where
-  pub made_none : Made g s n n 0 s
-  made_none =
-      record {
-        head = sym (cond-false (ltb n n) (n + 1) 0 (le-ltb n n (omega arith)));
-        linked = λ k d l q. absurd (omega arith);
-        left = λ k d q. refl;
-        beyond = beyond_none s;
-      }
-
   pub made_more :
       (k h : ℕ) (t u : List X)
       → n ≡ room (length s)
