@@ -1,7 +1,7 @@
 -- From records to their links: what is read and what is written at a slot.
-use Rattle.std.proofs.Common.{◌≡◌, ℕ, ◌+◌, ◌-◌, ◌<◌, ◌≤◌, ltb, cond, ◌≢◌, ⊎_elim, List, [], ◌∷◌, map, length, get_or, drop, set, sym, refl, ap, ◌∙◌, subst, arith, length-set}
-use Rattle.std.proofs.lemmas.List.{length-map, get_or-map, map-set, get_or-set_same, get_or-set_other, drop-set-lt, drop-drop}
-use Rattle.std.proofs.lemmas.Bool.{cases_eq, cond-true, cond-false, lt-ltb, le-ltb}
+use Rattle.std.proofs.Common.{◌≡◌, ℕ, ◌+◌, ◌-◌, ◌<◌, ◌≤◌, ltb, cond, ◌≢◌, ⊎_elim, List, [], ◌∷◌, map, length, get_or, drop, set, sym, ap, ◌∙◌, subst, arith, length-set}
+use Rattle.std.proofs.lemmas.List.{length-map, get_or-map, map-set, get_or-set_same, get_or-set_other, drop-set-lt}
+use Rattle.std.proofs.lemmas.Bool.{cases_eq, cond-true, lt-ltb}
 use Rattle.chain.specs.Chain.{room, Slot, link_at, Chain, times, after, relinked, Beyond}
 use Rattle.chain.proofs.Laws.{chain_push}
 
@@ -43,15 +43,7 @@ given_back f g reads (x ∷ s) t h k ks sl off e c =
     subst (λ (m : List ℕ). Chain m k (k ∷ ks)) (sym (ap (map f) (e x) ∙ links_relinked f g reads (x ∷ s) k h x))
     (chain_push (map f (x ∷ s)) h k ks (slot_links f (x ∷ s) k sl) off c)
 
--- a write at i leaves what is behind it
-pub rest_kept : {X : Type 0} (i : ℕ) (s t : List X) (y : X) → drop i t ≡ drop i s → drop (i + 1) (set t i y) ≡ drop (i + 1) s
-rest_kept i s t y e =
-    drop-set-lt (i + 1) t i y (omega arith) ∙ sym (drop-drop 1 i t) ∙ ap (drop 1) e ∙ drop-drop 1 i s
-
 -- writes at slots leave the records that have none
-pub beyond_none : {X : Type 0} (s : List X) → Beyond s s
-beyond_none s = (refl, refl)
-
 pub beyond_set : {X : Type 0} (s : List X) (k : ℕ) (x : X) → Slot (length s) k → Beyond s (set s (k - 1) x)
 beyond_set s k x h = (length-set s (k - 1) x, drop-set-lt (room (length s)) s (k - 1) x (omega (arith, h.0, h.1)))
 
@@ -69,15 +61,6 @@ pub record Made {X : Type 0} (g : X → ℕ → X) (s : List X) (n i h : ℕ) (t
   pub beyond : Beyond s t
 
 module _ {X : Type 0} (g : X → ℕ → X) (s : List X) (n : ℕ) where
-  pub made_none : Made g s n n 0 s
-  made_none =
-      record {
-        head = sym (cond-false (ltb n n) (n + 1) 0 (le-ltb n n (omega arith)));
-        linked = λ k d l q. absurd (omega arith);
-        left = λ k d q. refl;
-        beyond = beyond_none s;
-      }
-
   pub made_more :
       (k h : ℕ) (t u : List X)
       → n ≡ room (length s)

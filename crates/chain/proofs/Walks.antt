@@ -27,9 +27,6 @@ drawn_some m h (k ∷ ks) s c = (ap Some c.0, subst (λ (x : ℕ). Chain m (link
 abbrev pub Walked : List ℕ → ℕ → ℕ → ℕ → Type 0
 Walked m head at steps = (ks : List ℕ) → Chain m head ks → (js : List ℕ) × Chain m at js × (steps + length js ≡ length ks)
 
-pub walked_none : (m : List ℕ) (head : ℕ) → Walked m head head 0
-walked_none m head ks c = (ks, c, omega arith)
-
 pub walked_more : (m : List ℕ) (head at steps : ℕ) → Slot (length m) at → Walked m head at steps → Walked m head (link_at m at) (steps + 1)
 walked_more m head at steps s w ks c =
     let p = w ks c in

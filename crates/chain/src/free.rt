@@ -73,7 +73,8 @@ pub fn give_back<T: Link>(slots: &mut [T], head: &mut u16, slot: u16)
     *head = slot;
 }
 
-/// How many slots the chain that begins at `head` has.
+/// How many slots the chain that begins at `head` has. The walk takes no more steps than there are slots, so it ends whatever
+/// the records hold.
 pub fn count<T: Link>(slots: &[T], head: u16) -> u16
     ensures { (ks : List ℕ) → Chain (map T.link slots.now) head ks → result ≡ length ks }
 {

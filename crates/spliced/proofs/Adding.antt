@@ -1,6 +1,7 @@
 -- What putting one comment leaves: the records lie well again, and one list has one comment more.
 use Rattle.std.proofs.Common.{◌≡◌, ℕ, ◌+◌, ◌-◌, ◌<◌, true, List, [], ◌∷◌, ◌++◌, map, length, get_or, set, Some, None, Option, sym, refl, ap, ◌∙◌, subst, arith, length-set}
 use Rattle.std.proofs.lemmas.List.{length-map, map-append}
+use Rattle.std.proofs.lemmas.List.Sums.{get_or-le-sum_by}
 use Rattle.comments.specs.declared.store.Side.{Side}
 use Rattle.comments.specs.Lists.{added}
 use Rattle.chain.specs.Chain.{room, Slot, link_at, times, relinked}
@@ -11,7 +12,6 @@ use Rattle.spliced.specs.Linked.{links}
 use Rattle.spliced.specs.Notes.{Note, comments, comment_at, linked_note}
 use Rattle.spliced.specs.Heads.{Head, blank, list_at, with_list, key, At, Nowhere, listed}
 use Rattle.spliced.specs.Layout.{Fit, used, Layout, Laid}
-use Rattle.spliced.proofs.Sums.{one_of}
 use Rattle.spliced.proofs.Steps.{Holding, took, extended, opened, relinked_head}
 use Rattle.spliced.proofs.Meaning.{Means, means, key_own, key_spot, map_alike}
 use Rattle.spliced.proofs.Changes.{grown_lists}
@@ -55,7 +55,7 @@ module _ (notes : List Note) (heads : List Head) (fn fh held : ℕ) (c : ℕ) (o
       inside = omega (arith, rooms notes heads fn fh held)
 
       away : times fn (get_or owned i []) ≡ 0
-      away = omega (arith, y.apart fn, is_same fn, one_of (times fn) owned i (omega (arith, y.wide, inside)))
+      away = omega (arith, y.apart fn, is_same fn, get_or-le-sum_by (times fn) owned i [] (omega (arith, y.wide, inside)))
 
   pub its_own : comment_at (set (comments notes) (fn - 1) c) fn ≡ c
   its_own =

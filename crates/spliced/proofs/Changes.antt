@@ -1,7 +1,7 @@
 -- What each step of the store makes of the lists that its records mean.
 use Rattle.std.proofs.Common.{◌≡◌, ℕ, ◌<◌, Bool, true, false, ◌&&◌, eqb, ◌≢◌, List, [], ◌∷◌, ◌++◌, map, length, get_or, set, Some, None, Option, sym, refl, ap, ◌∙◌, ⊎_elim, arith, length-set}
 use Rattle.std.proofs.lemmas.List.{get_or-set_same, get_or-set_other, map-append}
-use Rattle.std.proofs.lemmas.Bool.{cases_eq, cases_Bool, both_ways}
+use Rattle.std.proofs.lemmas.Bool.{cases_eq, both_ways, false_from_ne_true}
 use Rattle.comments.specs.declared.store.Side.{Side}
 use Rattle.comments.specs.declared.store.Side.TheVariants.{Leading, Trailing}
 use Rattle.comments.specs.Lists.{Lists, join, shifted, same, added}
@@ -20,13 +20,9 @@ map_join : (side : Side) (f : ℕ → ℕ) (xs ys : List ℕ) → map f (join si
 map_join Leading f xs ys = map-append f xs ys
 map_join Trailing f xs ys = map-append f ys xs
 
--- a test that is not passed fails
-fails : (b : Bool) → (b ≡ true → ⊥) → b ≡ false
-fails b ne = ⊎_elim (λ e. absurd (ne e)) (λ e. e) (cases_Bool b)
-
 -- two tests that are not passed are one
 both_fail : (a b : Bool) → (a ≡ true → ⊥) → (b ≡ true → ⊥) → a ≡ b
-both_fail a b na nb = fails a na ∙ sym (fails b nb)
+both_fail a b na nb = false_from_ne_true a na ∙ sym (false_from_ne_true b nb)
 
 -- the list at s moved to the list at t
 pub joined_lists :
@@ -96,12 +92,12 @@ joined_lists cs n ls ls₁ ls' owned f f' side from to s t a b l ne ps pt long s
         (cases_eq i s)
 
     at_from : f' side from ≡ []
-    at_from = after.missing side from (λ i q. fails (key side from (ls' i)) (not_there i q))
+    at_from = after.missing side from (λ i q. false_from_ne_true (key side from (ls' i)) (not_there i q))
 
     else : (at : Side) (k : ℕ) → (at ≡ side → k ≡ from → ⊥) → (at ≡ side → k ≡ to → ⊥) → f' at k ≡ f at k
     else at k nf nt =
         elsewhere cs cs n ls ls' owned (set (set owned s []) t (join side (get_or owned s []) (get_or owned t []))) f f' at k before after
-        (λ i q. ⊎_elim (λ e. ap (key at k) (ap ls' e ∙ none_s) ∙ sym (fails (key at k (ls i)) (at_s i e))) (λ ns. ⊎_elim (λ e. ap (key at k) (ap ls' e ∙ h'.0) ∙ kl at k ∙ sym (ap (key at k) (ap ls e ∙ tb))) (λ mt. ap (key at k) (rest i q ns mt)) (cases_eq i t)) (cases_eq i s))
+        (λ i q. ⊎_elim (λ e. ap (key at k) (ap ls' e ∙ none_s) ∙ sym (false_from_ne_true (key at k (ls i)) (at_s i e))) (λ ns. ⊎_elim (λ e. ap (key at k) (ap ls' e ∙ h'.0) ∙ kl at k ∙ sym (ap (key at k) (ap ls e ∙ tb))) (λ mt. ap (key at k) (rest i q ns mt)) (cases_eq i t)) (cases_eq i s))
         (λ i q u. ap (map (comment_at cs)) (get_or-set_other (set owned s []) t i (join side (get_or owned s []) (get_or owned t [])) [] (λ e. at_t i e u) ∙ get_or-set_other owned s i [] [] (λ e. at_s i e u)))
       where
         at_s : (i : ℕ) → i ≡ s → key at k (ls i) ≡ true → ⊥
@@ -151,7 +147,7 @@ relabelled_lists cs n ls ls' owned f f' side from to s a l ne ps sa ka kl free h
         (cases_eq i s)
 
     at_from : f' side from ≡ []
-    at_from = after.missing side from (λ i q. fails (key side from (ls' i)) (not_there i q))
+    at_from = after.missing side from (λ i q. false_from_ne_true (key side from (ls' i)) (not_there i q))
 
     else : (at : Side) (k : ℕ) → (at ≡ side → k ≡ from → ⊥) → (at ≡ side → k ≡ to → ⊥) → f' at k ≡ f at k
     else at k nf nt =

@@ -1,5 +1,5 @@
 -- Walks along the notes of a list.
-use Rattle.std.proofs.Common.{◌≡◌, ℕ, suc, ◌+◌, ◌-◌, ◌<◌, List, map, length, Some, None, sym, ap, ◌∙◌, add-zero, zero-add, arith}
+use Rattle.std.proofs.Common.{◌≡◌, ℕ, suc, ◌+◌, ◌-◌, ◌<◌, List, map, length, Some, None, sym, ap, ◌∙◌, add-zero, arith}
 use Rattle.std.specs.List.{slice_get}
 use Rattle.chain.specs.Chain.{Slot, link_at, Chain}
 use Rattle.chain.proofs.Walks.{ended, led_on}
@@ -8,9 +8,6 @@ use Rattle.chain.proofs.Walks.{ended, led_on}
 abbrev pub Left : List ℕ → ℕ → ℕ → ℕ → Type 0
 Left m first at i =
     (ks : List ℕ) → Chain m first ks → (js : List ℕ) × Chain m at js × ((f : ℕ → ℕ) (r : ℕ) → slice_get (map f ks) (i + r) ≡ slice_get (map f js) r)
-
-pub left_none : (m : List ℕ) (first : ℕ) → Left m first first 0
-left_none m first ks c = (ks, c, λ f r. ap (slice_get (map f ks)) (zero-add r))
 
 pub left_more : (m : List ℕ) (first at i : ℕ) → Slot (length m) at → Left m first at i → Left m first (link_at m at) (i + 1)
 left_more m first at i s w ks c =

@@ -1,6 +1,6 @@
 -- What each step of the store does to the layout of its records.
 use Rattle.std.proofs.Common.{◌≡◌, ℕ, ◌+◌, ◌-◌, ◌<◌, Bool, true, false, ◌≢◌, List, [], ◌∷◌, ◌++◌, length, get_or, set, Some, None, Option, sym, refl, ap, ◌∙◌, subst, ⊎_elim, arith, length-set}
-use Rattle.std.proofs.lemmas.List.Sums.{sum_by-set}
+use Rattle.std.proofs.lemmas.List.Sums.{get_or-le-sum_by, sum_by-set}
 use Rattle.std.proofs.lemmas.List.{get_or-set_same, get_or-set_other, length-append, append_assoc}
 use Rattle.std.proofs.lemmas.Bool.{cases_eq}
 use Rattle.comments.specs.declared.store.Side.{Side}
@@ -10,7 +10,7 @@ use Rattle.chain.proofs.Laws.{chain_past, chain_push, chain_join, chain_slot}
 use Rattle.spliced.specs.declared.heads.NoteList.{NoteList}
 use Rattle.spliced.specs.Heads.{key}
 use Rattle.spliced.specs.Layout.{Fit, used, Layout}
-use Rattle.spliced.proofs.Sums.{two_of, one_of}
+use Rattle.spliced.proofs.Sums.{two_of}
 
 -- a list's last note is on it, and is a slot
 pub last_on : (m : List ℕ) (l : NoteList) (ks : List ℕ) → Fit m (Some l) ks → 0 < times l.last ks
@@ -66,7 +66,7 @@ module _ (m hm : List ℕ) (ls : ℕ → Option NoteList) (fn fh held : ℕ) (ow
       }
     where
       away : (i : ℕ) → i < room (length hm) → times x (get_or owned i []) ≡ 0
-      away i l = omega (arith, y.apart x, is_same x, one_of (times x) owned i (omega (arith, y.wide)))
+      away i l = omega (arith, y.apart x, is_same x, get_or-le-sum_by (times x) owned i [] (omega (arith, y.wide)))
 
   -- the list at s is taken from its head, which is given back
   pub detached : (s : ℕ) (l : NoteList) (ls' : ℕ → Option NoteList) (ns hs : List ℕ) → s < room (length hm) → ls s ≡ Some l → Holding ls (room (length hm)) s None ls' → Layout m hm ls fn fh held owned ns hs [] → Layout m (set hm s fh) ls' fn (s + 1) held (set owned s []) ns ((s + 1) ∷ hs) (get_or owned s [])
@@ -136,7 +136,7 @@ module _ (m hm : List ℕ) (ls : ℕ → Option NoteList) (fn fh held : ℕ) (ow
       record {
         wide = length-set owned t (xs ++ ys) ∙ y.wide;
         each = λ i q. ⊎_elim (fit_t i) (λ ne. subst (λ (o : Option NoteList). Fit (set m (a.last - 1) b.first) o (get_or (set owned t (xs ++ ys)) i [])) (sym (to.1 i q ne)) (subst (λ (ks : List ℕ). Fit (set m (a.last - 1) b.first) (ls i) ks) (sym (put_there t i (xs ++ ys) ne)) (fit_past m (ls i) (get_or owned i []) a.last b.first sx.0 (away i q ne) (y.each i q)))) (cases_eq i t);
-        notes = chain_past m fn a.last b.first ns sx.0 (omega (arith, y.apart a.last, here, one_of (times a.last) owned t inside)) y.notes;
+        notes = chain_past m fn a.last b.first ns sx.0 (omega (arith, y.apart a.last, here, get_or-le-sum_by (times a.last) owned t [] inside)) y.notes;
         apart = λ k. omega (arith, y.apart k, sum_by-set (times k) owned t (xs ++ ys) [] inside, times_append k xs ys, split k);
         heads = y.heads;
         once = λ i q. ⊎_elim (once_t i) (λ ne. omega (arith, y.once i q, ap used (to.1 i q ne))) (cases_eq i t);
@@ -159,7 +159,7 @@ module _ (m hm : List ℕ) (ls : ℕ → Option NoteList) (fn fh held : ℕ) (ow
       away i q ne = omega (arith, y.apart a.last, here, two_of (times a.last) owned t i refl ne inside (omega (arith, y.wide)))
 
       not_back : times a.last ys ≡ 0
-      not_back = omega (arith, y.apart a.last, last_on m a xs f, split a.last, one_of (times a.last) owned t inside)
+      not_back = omega (arith, y.apart a.last, last_on m a xs f, split a.last, get_or-le-sum_by (times a.last) owned t [] inside)
 
       fit_t : (i : ℕ) → i ≡ t → Fit (set m (a.last - 1) b.first) (ls' i) (get_or (set owned t (xs ++ ys)) i [])
       fit_t i e =

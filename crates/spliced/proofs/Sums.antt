@@ -12,9 +12,6 @@ two_of f xs i j z ne li lj =
     let c : f (get_or (set xs i []) j []) ≡ f (get_or xs j []) = ap f (get_or-set_other xs i j [] [] ne) in
     omega arith
 
-pub one_of : (f : List ℕ → ℕ) (xs : List (List ℕ)) (i : ℕ) → i < length xs → f (get_or xs i []) ≤ sum_by f xs
-one_of f xs i l = get_or-le-sum_by f xs i [] l
-
 -- lists of which none is empty have as many elements as there are lists, at least
 pub none_empty : (xs : List (List ℕ)) → ((i : ℕ) → i < length xs → 0 < length (get_or xs i [])) → length xs ≤ sum_by length xs
 none_empty [] h = omega arith

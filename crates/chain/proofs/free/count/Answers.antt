@@ -1,11 +1,8 @@
 use Rattle.std.proofs.Common.{ℕ, ◌+◌, map, sym, subst, arith}
 use Rattle.std.proofs.lemmas.List.{length-map}
 use Rattle.chain.proofs.Records.{slot_links, slot_records}
-use Rattle.chain.proofs.Walks.{Walked, walked_none, walked_more, walked_off, walked_all}
+use Rattle.chain.proofs.Walks.{Walked, walked_more, walked_off, walked_all}
 use Rattle.chain.proofs.free.count.Goals as goal
-
-pub loop-steps-init : goal.loop-steps-init
-loop-steps-init g c = walked_none (map g.T.Link.link c.args.slots.now) c.args.head
 
 pub returns-in_default : goal.returns-in_default
 returns-in_default g c =

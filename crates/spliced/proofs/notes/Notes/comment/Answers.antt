@@ -2,11 +2,8 @@ use Rattle.std.proofs.Common.{ℕ, ◌+◌, Some, ap, sym, ◌∙◌, subst, ari
 use Rattle.chain.proofs.Records.{slot_links, slot_records, link_read}
 use Rattle.spliced.specs.Linked.{links}
 use Rattle.spliced.specs.Notes.{Note, comments, comment_at}
-use Rattle.spliced.proofs.Reading.{Left, left_none, left_more, left_off, left_on}
+use Rattle.spliced.proofs.Reading.{Left, left_more, left_off, left_on}
 use Rattle.spliced.proofs.notes.Notes.comment.Goals as goal
-
-pub loop-init : goal.loop-init
-loop-init c = left_none (links c.args.self.now.slots.now) c.args.first
 
 pub returns-in_err-at : goal.returns-in_err-at
 returns-in_err-at c =
