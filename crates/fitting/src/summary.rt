@@ -54,10 +54,7 @@ impl Declared {
 #[derive(Clone, Copy)]
 pub struct Summary {
     pub number: u8,
-    pub first: Traits,
-    pub second: Traits,
-    pub third: Traits,
-    pub fourth: Traits,
+    pub leading: [Traits; 4],
     pub last: Traits,
     /// Each may stand where a value does.
     pub values: bool,
@@ -77,12 +74,6 @@ pub struct Summary {
     pub declared: Declared,
 }
 
-fn chosen(now: bool, child: Traits, kept: Traits) -> Traits
-    ensures { result ≡ cond now child kept }
-{
-    if now { child } else { kept }
-}
-
 fn one_more(number: u8) -> u8
     ensures { result ≡ more number }
 {
@@ -96,10 +87,7 @@ impl Summary {
     {
         Summary {
             number: 0,
-            first: Traits::ABSENT,
-            second: Traits::ABSENT,
-            third: Traits::ABSENT,
-            fourth: Traits::ABSENT,
+            leading: [Traits::ABSENT; 4],
             last: Traits::ABSENT,
             values: true,
             arguments: true,
@@ -118,12 +106,13 @@ impl Summary {
     {
         let value = child.may_stand(Site::At(Slot::Assignment));
         let name = child.may_stand(Site::PlainName);
+        let mut leading = self.leading;
+        if self.number < 4 {
+            leading[self.number as usize] = child;
+        }
         Summary {
             number: one_more(self.number),
-            first: chosen(self.number == 0, child, self.first),
-            second: chosen(self.number == 1, child, self.second),
-            third: chosen(self.number == 2, child, self.third),
-            fourth: chosen(self.number == 3, child, self.fourth),
+            leading,
             last: child,
             values: self.values & value,
             arguments: (self.number == 0) | (self.arguments & value),
