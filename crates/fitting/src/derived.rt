@@ -13,7 +13,7 @@ use crate::traits::{Begin, Traits};
 use kinds::{BinaryOperator, Binding, Form, Key, Own, Side, Slot};
 
 /// Which children are in the open, so that an `in` in the open in one of them is in the open in the record.
-#[derive(Clone, Copy)]
+#[derive(Clone, Copy, PartialEq, Eq, Debug)]
 pub enum Open {
     Nothing,
     First,
@@ -28,7 +28,7 @@ pub enum Open {
 }
 
 /// What a record begins with.
-#[derive(Clone, Copy)]
+#[derive(Clone, Copy, PartialEq, Eq, Debug)]
 pub enum Opening {
     /// A token of its own.
     Token(Begin),
@@ -37,7 +37,7 @@ pub enum Opening {
 }
 
 /// Whether an `else` behind a record could be its own.
-#[derive(Clone, Copy)]
+#[derive(Clone, Copy, PartialEq, Eq, Debug)]
 pub enum Tail {
     /// Never.
     Nothing,
@@ -70,6 +70,7 @@ impl Traits {
     }
 }
 
+// The three flags are the fields of `Form::For`: a struct of them would change that form, and with it what the grammar says of it.
 fn open_in_for(init: bool, test: bool, update: bool) -> Open
     ensures { result ≡ for_open init test update }
 {
@@ -125,12 +126,6 @@ fn open_in(parts: Open, children: Summary) -> bool
         Open::FirstFour => first.bare_in || second.bare_in || third.bare_in || fourth.bare_in,
         Open::All => children.bare_in,
     }
-}
-
-fn is_in(form: Form) -> bool
-    ensures { result ≡ is_in form }
-{
-    matches!(form, Form::Bin(BinaryOperator::In))
 }
 
 fn opens_with(form: Form) -> Opening
@@ -197,12 +192,6 @@ fn is_whole(form: Form) -> bool
     matches!(form, Form::Name(Binding::Plain) | Form::Num | Form::Str)
 }
 
-fn is_var(form: Form) -> bool
-    ensures { result ≡ declares form }
-{
-    matches!(form, Form::Var)
-}
-
 /// Whether the only child is a Name without a value.
 fn one_name(children: Summary) -> bool
     ensures { (cs : List Attr) → Sums cs children → result ≡ one_name cs }
@@ -214,14 +203,14 @@ fn one_name(children: Summary) -> bool
 fn has_bare_in(form: Form, children: Summary) -> bool
     ensures { (cs : List Attr) → Sums cs children → result ≡ (is_in form || bare (open_of form) cs) }
 {
-    is_in(form) || open_in(open_children(form), children)
+    form == Form::Bin(BinaryOperator::In) || open_in(open_children(form), children)
 }
 
 /// Whether the record is a single Name, Num or Str, or a Var of a single Name.
 fn is_single(form: Form, children: Summary) -> bool
     ensures { (cs : List Attr) → Sums cs children → result ≡ (whole_of form || (declares form && one_name cs)) }
 {
-    is_whole(form) || is_var(form) && one_name(children)
+    is_whole(form) || form == Form::Var && one_name(children)
 }
 
 /// What a tree is whose root has this form, and its children that summary.

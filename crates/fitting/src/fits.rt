@@ -25,7 +25,7 @@ impl Declared {
     pub fn is_complete(self) -> bool
         ensures { result ≡ is_complete self }
     {
-        matches!(self, Declared::Complete)
+        self == Declared::Complete
     }
 }
 
@@ -96,6 +96,7 @@ fn link_fits(link: Link, children: Summary, before: Site) -> bool
     }
 }
 
+// The three flags are the fields of `Form::For`, as in `open_in_for`.
 /// The three parts of a For's head that are there, and its body.
 fn head_fits(init: bool, test: bool, update: bool, first: Site, children: Summary) -> bool
     ensures { (cs : List Attr) → Sums cs children → result ≡ asks_for init test update (site_of first) cs }

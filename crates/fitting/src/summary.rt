@@ -1,4 +1,5 @@
 // What is kept of the children of a record: enough to say of every form whether they may stand where they stand.
+// Contracts take the children's attributes beside a summary: it keeps no list that a model or an invariant could name.
 
 ghost use Rattle.std.specs.Prelude.{◌≡◌, cond, List, [], ◌∷◌, ◌++◌};
 ghost use Rattle.grammar.specs.Site.{Attr};
@@ -10,7 +11,7 @@ use crate::traits::Traits;
 use kinds::Slot;
 
 /// How far the Names and values of a Var have come.
-#[derive(Clone, Copy)]
+#[derive(Clone, Copy, PartialEq, Eq, Debug)]
 pub enum Declared {
     /// There is no Name yet.
     Nothing,
@@ -51,7 +52,7 @@ impl Declared {
 
 /// The children of a record: their number up to five (no form has a fixed number above four), the traits of the first
 /// four and of the last, `ABSENT` where there is none; and what holds of all of them, or of all but one.
-#[derive(Clone, Copy)]
+#[derive(Clone, Copy, PartialEq, Eq, Debug)]
 pub struct Summary {
     pub number: u8,
     pub leading: [Traits; 4],
@@ -110,6 +111,7 @@ impl Summary {
         if self.number < 4 {
             leading[self.number as usize] = child;
         }
+        // `&` and `|`: both sides are at hand, and each `&&` would be a fork that the proof joins again.
         Summary {
             number: one_more(self.number),
             leading,
