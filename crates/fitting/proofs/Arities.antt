@@ -1,68 +1,87 @@
--- A fixed number of children, from the summary.
-use mathlib.Core.Path.{◌≡◌, refl, ap}
+-- As many children as sites, from the summary.
+use Prim.Native.Nat.{ℕ, zero, suc, ◌<◌, ◌≤◌}
+use mathlib.Core.Path.{◌≡◌, refl, sym, ◌∙◌, ap}
 use mathlib.Core.Bool.{Bool, true, false, ◌&&◌}
-use mathlib.Core.List.{List, [], ◌∷◌}
-use lib.Dec.{eqb}
+use mathlib.Core.List.{List, [], ◌∷◌, map}
+use lib.ListN.{length, get_or}
+use Rattle.std.proofs.Common.{arith}
+use Rattle.std.proofs.Math.Bool.{and-false}
+use Rattle.std.specs.Bool.{MatchBool}
+use Rattle.std.specs.List.{zip, AllWithin, HoldsAt}
+use Rattle.std.proofs.lemmas.List.{length-map}
 use Rattle.grammar.specs.Site.{Attr, Site, ok}
-use Rattle.fitting.specs.Traits.{traits_of}
-use Rattle.fitting.specs.Summary.{number, first, second, third, fourth, Sums}
-use Rattle.fitting.specs.Sites.{one, two, three, four}
+use Rattle.grammar.specs.Layout.{rest}
+use Rattle.fitting.specs.Traits.{traits_of, site_of}
+use Rattle.fitting.specs.Summary.{number, first, Sums}
+use Rattle.fitting.specs.Sites.{stand, fit_sites}
 use Rattle.fitting.specs.declared.summary.Summary.{Summary}
+use Rattle.fitting.specs.declared.traits.Traits.{Traits}
+use Rattle.fitting.specs.declared.site.Site.{Site as SiteR}
 
-and_false : (a : Bool) → false ≡ a && false
-and_false true = refl
-and_false false = refl
+stand_none : (ss : List Site) → stand ss [] ≡ true
+stand_none [] = refl
+stand_none (s ∷ ss) = refl
 
--- too many, or too few, however many were tested before
-and_fails : (a b : Bool) → false ≡ b → false ≡ a && b
-and_fails true b e = e
-and_fails false b e = refl
+-- A child and its site.
+abbrev pub Stands : Traits × SiteR → Type 0
+Stands p = ok (site_of p.1) (traits_of p.0) ≡ true
 
-and_true : (a : Bool) → a ≡ a && true
-and_true true = refl
-and_true false = refl
+abbrev pub Fails : Traits × SiteR → Type 0
+Fails p = ok (site_of p.1) (traits_of p.0) ≡ false
 
-one_is : (s : Site) (cs : List Attr) → eqb (number cs) 1 && (ok s (first cs)) ≡ one s cs
-one_is s [] = refl
-one_is s (x ∷ []) = and_true (ok s x)
-one_is s (x ∷ (y ∷ [])) = and_false (ok s x)
-one_is s (x ∷ (y ∷ (z ∷ []))) = and_false (ok s x)
-one_is s (x ∷ (y ∷ (z ∷ (w ∷ [])))) = and_false (ok s x)
-one_is s (x ∷ (y ∷ (z ∷ (w ∷ (v ∷ cs))))) = and_false (ok s x)
+all_stand : (ts : List Traits) (ss : List SiteR) → ((k : ℕ) (d : Traits × SiteR) → k < length (zip ts ss) → Stands (get_or (zip ts ss) k d)) → true ≡ stand (map site_of ss) (map traits_of ts)
+all_stand [] ss h = sym (stand_none (map site_of ss))
+all_stand (t ∷ ts) [] h = refl
+all_stand (t ∷ ts) (s ∷ ss) h = all_stand ts ss (λ k d l. h (suc k) d (omega (arith, l))) ∙ ap (λ (b : Bool). b && stand (map site_of ss) (map traits_of ts)) (sym (h 0 (t, s) (omega arith)))
 
-two_is : (s t : Site) (cs : List Attr) → eqb (number cs) 2 && (ok s (first cs) && (ok t (second cs))) ≡ two s t cs
-two_is s t [] = refl
-two_is s t (x ∷ []) = and_false (ok s x)
-two_is s t (x ∷ (y ∷ [])) = ap (λ (b : Bool). ok s x && b) (and_true (ok t y))
-two_is s t (x ∷ (y ∷ (z ∷ []))) = and_fails (ok s x) _ (and_false (ok t y))
-two_is s t (x ∷ (y ∷ (z ∷ (w ∷ [])))) = and_fails (ok s x) _ (and_false (ok t y))
-two_is s t (x ∷ (y ∷ (z ∷ (w ∷ (v ∷ cs))))) = and_fails (ok s x) _ (and_false (ok t y))
+one_fails : (ts : List Traits) (ss : List SiteR) (k : ℕ) → k < length (zip ts ss) → ((d : Traits × SiteR) → Fails (get_or (zip ts ss) k d)) → false ≡ stand (map site_of ss) (map traits_of ts)
+one_fails [] ss k l h = absurd (omega (arith, l))
+one_fails (t ∷ ts) [] k l h = absurd (omega (arith, l))
+one_fails (t ∷ ts) (s ∷ ss) zero l h = ap (λ (b : Bool). b && stand (map site_of ss) (map traits_of ts)) (sym (h (t, s)))
+one_fails (t ∷ ts) (s ∷ ss) (suc k) l h = sym (and-false (ok (site_of s) (traits_of t))) ∙ ap (λ (b : Bool). ok (site_of s) (traits_of t) && b) (one_fails ts ss k (omega (arith, l)) h)
 
-three_is : (s t u : Site) (cs : List Attr) → eqb (number cs) 3 && (ok s (first cs) && (ok t (second cs) && (ok u (third cs)))) ≡ three s t u cs
-three_is s t u [] = refl
-three_is s t u (x ∷ []) = and_false (ok s x)
-three_is s t u (x ∷ (y ∷ [])) = and_fails (ok s x) _ (and_false (ok t y))
-three_is s t u (x ∷ (y ∷ (z ∷ []))) = ap (λ (b : Bool). ok s x && b) (ap (λ (b : Bool). ok t y && b) (and_true (ok u z)))
-three_is s t u (x ∷ (y ∷ (z ∷ (w ∷ [])))) = and_fails (ok s x) _ (and_fails (ok t y) _ (and_false (ok u z)))
-three_is s t u (x ∷ (y ∷ (z ∷ (w ∷ (v ∷ cs))))) = and_fails (ok s x) _ (and_fails (ok t y) _ (and_false (ok u z)))
+pub stand_told : (ts : List Traits) (ss : List SiteR) (r : Bool) → MatchBool r (AllWithin Stands (zip ts ss) 0 (length (zip ts ss))) ((k : ℕ) × (k < length (zip ts ss)) × HoldsAt Fails (zip ts ss) k) → r ≡ stand (map site_of ss) (map traits_of ts)
+stand_told ts ss true h = all_stand ts ss (λ k d l. h k d (omega arith) l)
+stand_told ts ss false h = one_fails ts ss h.0 h.1 h.2
 
-four_is : (s t u p : Site) (cs : List Attr) → eqb (number cs) 4 && (ok s (first cs) && (ok t (second cs) && (ok u (third cs) && (ok p (fourth cs))))) ≡ four s t u p cs
-four_is s t u p [] = refl
-four_is s t u p (x ∷ []) = and_false (ok s x)
-four_is s t u p (x ∷ (y ∷ [])) = and_fails (ok s x) _ (and_false (ok t y))
-four_is s t u p (x ∷ (y ∷ (z ∷ []))) = and_fails (ok s x) _ (and_fails (ok t y) _ (and_false (ok u z)))
-four_is s t u p (x ∷ (y ∷ (z ∷ (w ∷ [])))) = ap (λ (b : Bool). ok s x && b) (ap (λ (b : Bool). ok t y && b) (ap (λ (b : Bool). ok u z && b) (and_true (ok p w))))
-four_is s t u p (x ∷ (y ∷ (z ∷ (w ∷ (v ∷ cs))))) = and_fails (ok s x) _ (and_fails (ok t y) _ (and_fails (ok u z) _ (and_false (ok p w))))
+-- The number stops at five, and no more than four sites are asked for.
+number_tells : (cs : List Attr) (n : ℕ) → n ≤ 4 → number cs ≡ n → length cs ≡ n
+number_tells [] n h e = e
+number_tells (x ∷ []) n h e = e
+number_tells (x ∷ (y ∷ [])) n h e = e
+number_tells (x ∷ (y ∷ (z ∷ []))) n h e = e
+number_tells (x ∷ (y ∷ (z ∷ (w ∷ [])))) n h e = e
+number_tells (x ∷ (y ∷ (z ∷ (w ∷ (v ∷ cs))))) n h e = absurd (omega (arith, h, e))
 
-module _ (cs : List Attr) (k : Summary) (h : Sums cs k) where
-  pub one_by : (s : Site) (a : Bool) → a ≡ ok s (traits_of k.first) → eqb k.number 1 && (a) ≡ one s cs
-  one_by s a ea = rw (h.number, ea, h.first) (one_is s cs)
+number_told : (cs : List Attr) (n : ℕ) → n ≤ 4 → length cs ≡ n → number cs ≡ n
+number_told [] n h e = e
+number_told (x ∷ []) n h e = e
+number_told (x ∷ (y ∷ [])) n h e = e
+number_told (x ∷ (y ∷ (z ∷ []))) n h e = e
+number_told (x ∷ (y ∷ (z ∷ (w ∷ [])))) n h e = e
+number_told (x ∷ (y ∷ (z ∷ (w ∷ (v ∷ cs))))) n h e = absurd (omega (arith, h, e))
 
-  pub two_by : (s t : Site) (a b : Bool) → a ≡ ok s (traits_of k.first) → b ≡ ok t (traits_of k.second) → eqb k.number 2 && (a && (b)) ≡ two s t cs
-  two_by s t a b ea eb = rw (h.number, ea, h.first, eb, h.second) (two_is s t cs)
+-- The first n of cs, and `absent` for each that is not there.
+abbrev padded : ℕ → List Attr → List Attr
+padded zero cs = []
+padded (suc n) cs = first cs ∷ padded n (rest cs)
 
-  pub three_by : (s t u : Site) (a b c : Bool) → a ≡ ok s (traits_of k.first) → b ≡ ok t (traits_of k.second) → c ≡ ok u (traits_of k.third) → eqb k.number 3 && (a && (b && (c))) ≡ three s t u cs
-  three_by s t u a b c ea eb ec = rw (h.number, ea, h.first, eb, h.second, ec, h.third) (three_is s t u cs)
+stand_alike : (n : ℕ) (ss : List Site) (cs : List Attr) → length ss ≤ n → length cs ≡ length ss → stand ss (padded n cs) ≡ fit_sites ss cs
+stand_alike n [] [] h e = refl
+stand_alike n [] (c ∷ cs) h e = absurd (omega (arith, e))
+stand_alike n (s ∷ ss) [] h e = absurd (omega (arith, e))
+stand_alike zero (s ∷ ss) (c ∷ cs) h e = absurd (omega (arith, h))
+stand_alike (suc n) (s ∷ ss) (c ∷ cs) h e = ap (λ (b : Bool). ok s c && b) (stand_alike n ss cs (omega (arith, h)) (omega (arith, e)))
 
-  pub four_by : (s t u p : Site) (a b c d : Bool) → a ≡ ok s (traits_of k.first) → b ≡ ok t (traits_of k.second) → c ≡ ok u (traits_of k.third) → d ≡ ok p (traits_of k.fourth) → eqb k.number 4 && (a && (b && (c && (d)))) ≡ four s t u p cs
-  four_by s t u p a b c d ea eb ec ed = rw (h.number, ea, h.first, eb, h.second, ec, h.third, ed, h.fourth) (four_is s t u p cs)
+stand_unlike : (ss : List Site) (cs : List Attr) → (length cs ≡ length ss → ⊥) → false ≡ fit_sites ss cs
+stand_unlike [] [] h = absurd (h refl)
+stand_unlike [] (c ∷ cs) h = refl
+stand_unlike (s ∷ ss) [] h = refl
+stand_unlike (s ∷ ss) (c ∷ cs) h = sym (and-false (ok s c)) ∙ ap (λ (b : Bool). ok s c && b) (stand_unlike ss cs (λ e. h (omega (arith, e))))
+
+module _ (cs : List Attr) (k : Summary) (ss : List SiteR) (h : Sums cs k) (few : length ss ≤ 4) where
+  pub as_many : k.number ≡ length ss → stand (map site_of ss) (map traits_of k.leading) ≡ fit_sites (map site_of ss) cs
+  as_many e = ap (λ (ds : List Attr). stand (map site_of ss) ds) h.leading ∙ stand_alike 4 (map site_of ss) cs (omega (arith, few, length-map ss site_of)) (number_tells cs (length ss) few (sym h.number ∙ e) ∙ sym (length-map ss site_of))
+
+  pub not_as_many : (k.number ≡ length ss → ⊥) → false ≡ fit_sites (map site_of ss) cs
+  not_as_many n = stand_unlike (map site_of ss) cs (λ e. n (h.number ∙ number_told cs (length ss) few (e ∙ length-map ss site_of)))

@@ -30,7 +30,7 @@ use Rattle.grammar.specs.Layout.{Lay, end, stop, tok, kid, child, layout, fit_ki
 use Rattle.fitting.specs.Summary.{number, last, every, declared}
 use Rattle.fitting.specs.Sites.{fit_sites, none, heads, ends, is_complete, asks}
 use Rattle.fitting.specs.declared.summary.Declared.TheVariants.{Nothing, Complete, Unvalued, Wrong}
-use Rattle.fitting.proofs.Summaries.{and_assoc, and_true}
+use Rattle.std.proofs.Math.Bool.{and_assoc, and-true, and-false}
 
 abbrev sites : Lay → List Site
 sites end = []
@@ -46,10 +46,6 @@ lay_sites stop (c ∷ cs) = refl
 lay_sites (tok j l) cs = lay_sites l cs
 lay_sites (kid i s l) [] = refl
 lay_sites (kid i s l) (c ∷ cs) = ap (λ (b : Bool). ok s c && b) (lay_sites l cs)
-
-and_false : (a : Bool) → a && false ≡ false
-and_false true = refl
-and_false false = refl
 
 commas_all : (i : Bool) (s : Site) (c : Code) (cs : List Attr) → every s cs ≡ fit_kids (commas i s cs (tok c end)) cs
 commas_all i s c [] = refl
@@ -75,11 +71,11 @@ run_end (x ∷ cs) = ap (λ (b : Bool). ok stmt x && b) (run_end cs)
 -- parameters, and what stands behind them
 commas_but : (l : Lay) (c : Attr) (cs : List Attr) → every plain_name (but_last (c ∷ cs)) && fit_kids l (last (c ∷ cs) ∷ []) ≡ fit_kids (commas true plain_name (but_last (c ∷ cs)) l) (c ∷ cs)
 commas_but l c [] = refl
-commas_but l c (d ∷ cs) = sym (and_assoc (ok plain_name c) (every plain_name (but_last (d ∷ cs))) (fit_kids l (last (d ∷ cs) ∷ []))) ∙ ap (λ (b : Bool). ok plain_name c && b) (commas_but l d cs)
+commas_but l c (d ∷ cs) = (and_assoc (ok plain_name c) (every plain_name (but_last (d ∷ cs))) (fit_kids l (last (d ∷ cs) ∷ []))) ∙ ap (λ (b : Bool). ok plain_name c && b) (commas_but l d cs)
 
 listed_but : (l : Lay) (c : Attr) (cs : List Attr) → every plain_name (but_last (c ∷ cs)) && fit_kids l (last (c ∷ cs) ∷ []) ≡ fit_kids (listed plain_name (but_last (c ∷ cs)) l) (c ∷ cs)
 listed_but l c [] = refl
-listed_but l c (d ∷ cs) = sym (and_assoc (ok plain_name c) (every plain_name (but_last (d ∷ cs))) (fit_kids l (last (d ∷ cs) ∷ []))) ∙ ap (λ (b : Bool). ok plain_name c && b) (commas_but l d cs)
+listed_but l c (d ∷ cs) = (and_assoc (ok plain_name c) (every plain_name (but_last (d ∷ cs))) (fit_kids l (last (d ∷ cs) ∷ []))) ∙ ap (λ (b : Bool). ok plain_name c && b) (commas_but l d cs)
 
 ends_is : (s : Site) (l : Lay) → ((x : Attr) → ok s x ≡ fit_kids l (x ∷ [])) → (c : Attr) (cs : List Attr) → ends s (c ∷ cs) ≡ fit_kids (listed plain_name (but_last (c ∷ cs)) l) (c ∷ cs)
 ends_is s l h c cs = ap (λ (b : Bool). every plain_name (but_last (c ∷ cs)) && b) (h (last (c ∷ cs))) ∙ listed_but l c cs
@@ -123,18 +119,18 @@ many c d (e ∷ (f ∷ (g ∷ cs))) = refl
 
 fn_is : (o : Own) (cs : List Attr) → asks (form.Fn o) cs ≡ fit_kids (layout (form.Fn o) cs) cs
 fn_is own.Nameless [] = refl
-fn_is own.Nameless (c ∷ cs) = ends_is block_only (tok close_paren (kid true block_only end)) (λ x. sym (and_true (ok block_only x))) c cs
+fn_is own.Nameless (c ∷ cs) = ends_is block_only (tok close_paren (kid true block_only end)) (λ x. sym (and-true (ok block_only x))) c cs
 fn_is own.Named [] = refl
-fn_is own.Named (c ∷ []) = sym (and_false (ok plain_name c))
-fn_is own.Named (c ∷ (d ∷ cs)) = ap (λ (b : Bool). b && ends block_only (c ∷ (d ∷ cs))) (many c d cs) ∙ sym (and_assoc (ok plain_name c) (every plain_name (but_last (d ∷ cs))) (ok block_only (last (d ∷ cs)))) ∙ ap (λ (b : Bool). ok plain_name c && b) (fn_is own.Nameless (d ∷ cs))
+fn_is own.Named (c ∷ []) = sym (and-false (ok plain_name c))
+fn_is own.Named (c ∷ (d ∷ cs)) = ap (λ (b : Bool). b && ends block_only (c ∷ (d ∷ cs))) (many c d cs) ∙ (and_assoc (ok plain_name c) (every plain_name (but_last (d ∷ cs))) (ok block_only (last (d ∷ cs)))) ∙ ap (λ (b : Bool). ok plain_name c && b) (fn_is own.Nameless (d ∷ cs))
 
 arrow_is : (cs : List Attr) → asks form.Arrow cs ≡ fit_kids (layout form.Arrow cs) cs
 arrow_is [] = refl
-arrow_is (c ∷ cs) = ends_is body (tok close_paren (tok arrow (child body end))) (λ x. sym (and_true (ok body x))) c cs
+arrow_is (c ∷ cs) = ends_is body (tok close_paren (tok arrow (child body end))) (λ x. sym (and-true (ok body x))) c cs
 
 seq_is : (cs : List Attr) → asks form.Seq cs ≡ fit_kids (layout form.Seq cs) cs
 seq_is [] = refl
-seq_is (c ∷ []) = sym (and_false (ok (at slot.Assignment) c))
+seq_is (c ∷ []) = sym (and-false (ok (at slot.Assignment) c))
 seq_is (c ∷ (d ∷ cs)) = ap (λ (b : Bool). b && every (at slot.Assignment) (c ∷ (d ∷ cs))) (many c d cs) ∙ ap (λ (b : Bool). ok (at slot.Assignment) c && (ok (at slot.Assignment) d && b)) (commas_end false (at slot.Assignment) cs)
 
 yield_is : (cs : List Attr) → asks form.Yield cs ≡ fit_kids (layout form.Yield cs) cs

@@ -33,11 +33,11 @@ use Rattle.grammar.specs.Layout as grammar
 use Rattle.grammar.specs.Layout.{Lay, end, stop, tok, kid, child, layout, commas, listed, run, names, var_of, rest, but_last, any_open, begin_of, dangles_of, last_dangles, single_of, first_standing, is_in, attr_of}
 use Rattle.fitting.specs.Traits.{traits_of}
 use Rattle.fitting.specs.Traits as traits
-use Rattle.fitting.specs.Summary.{number, first, second, third, fourth, last, any_bare, Sums}
+use Rattle.fitting.specs.Summary.{number, first, second, third, fourth, last, any_bare}
 use Rattle.fitting.specs.Derived.{open_of, bare, opening_of, begins, tail_of, dangling, whole_of, declares, one_name}
-use Rattle.fitting.specs.declared.summary.Summary.{Summary}
+use Rattle.fitting.specs.declared.traits.Traits.{Traits}
 use Rattle.fitting.specs.declared.traits.Begin.{Begin}
-use Rattle.fitting.proofs.Summaries.{or_false}
+use Rattle.std.proofs.Math.Bool.{or-false}
 
 -- Which children are inside brackets, in order.
 abbrev insides : Lay → List Bool
@@ -60,12 +60,12 @@ lay_any (kid i s l) (c ∷ cs) = ap (λ (b : Bool). (not i && c.bare_in) || b) (
 
 the_first : (cs : List Attr) → (first cs).bare_in ≡ any_of (false ∷ []) cs
 the_first [] = refl
-the_first (c ∷ cs) = sym (or_false c.bare_in)
+the_first (c ∷ cs) = sym (or-false c.bare_in)
 
 shut_second : (cs : List Attr) → (first cs).bare_in ≡ any_of (false ∷ (true ∷ [])) cs
 shut_second [] = refl
-shut_second (c ∷ []) = sym (or_false c.bare_in)
-shut_second (c ∷ (d ∷ cs)) = sym (or_false c.bare_in)
+shut_second (c ∷ []) = sym (or-false c.bare_in)
+shut_second (c ∷ (d ∷ cs)) = sym (or-false c.bare_in)
 
 all_shut : (cs : List Attr) → false ≡ any_of (true ∷ []) cs
 all_shut [] = refl
@@ -114,7 +114,7 @@ run_shut (a ∷ bs) (d ∷ ds) l h = run_shut bs ds l h
 
 heads_shut : (s t : Site) (j : Code) (bs cs : List Attr) (l : Lay) → ((es : List Attr) → false ≡ any_open l es) → (first cs).bare_in ≡ any_open (kid false s (tok j (listed t bs l))) cs
 heads_shut s t j bs [] l h = refl
-heads_shut s t j bs (c ∷ cs) l h = sym (or_false c.bare_in) ∙ ap (λ (b : Bool). c.bare_in || b) (listed_shut t bs cs l h)
+heads_shut s t j bs (c ∷ cs) l h = sym (or-false c.bare_in) ∙ ap (λ (b : Bool). c.bare_in || b) (listed_shut t bs cs l h)
 
 -- What stands behind parameters.
 commas_last : (l : Lay) (c : Attr) (cs : List Attr) → any_open l (last (c ∷ cs) ∷ []) ≡ any_open (commas true plain_name (but_last (c ∷ cs)) l) (c ∷ cs)
@@ -127,12 +127,12 @@ listed_last l c (d ∷ cs) = commas_last l d cs
 
 arrow_bare : (cs : List Attr) → (last cs).bare_in ≡ any_open (layout form.Arrow cs) cs
 arrow_bare [] = refl
-arrow_bare (c ∷ cs) = sym (or_false (last (c ∷ cs)).bare_in) ∙ listed_last _ c cs
+arrow_bare (c ∷ cs) = sym (or-false (last (c ∷ cs)).bare_in) ∙ listed_last _ c cs
 
 fn_bare : (o : Own) (cs : List Attr) → bare (open_of (form.Fn o)) cs ≡ any_open (layout (form.Fn o) cs) cs
 fn_bare own.Nameless cs = listed_shut plain_name (but_last cs) cs _ (λ es. all_shut es ∙ lay_any (kid true site.block_only end) es)
 fn_bare own.Named [] = refl
-fn_bare own.Named (c ∷ cs) = sym (or_false c.bare_in) ∙ ap (λ (b : Bool). c.bare_in || b) (listed_shut plain_name (but_last cs) cs _ (λ es. all_shut es ∙ lay_any (kid true site.block_only end) es))
+fn_bare own.Named (c ∷ cs) = sym (or-false c.bare_in) ∙ ap (λ (b : Bool). c.bare_in || b) (listed_shut plain_name (but_last cs) cs _ (λ es. all_shut es ∙ lay_any (kid true site.block_only end) es))
 
 -- Lists in the open.
 commas_open : (s : Site) (cs : List Attr) → any_bare cs ≡ any_open (commas false s cs end) cs
@@ -165,15 +165,15 @@ if_bare : (cs : List Attr) → (second cs).bare_in || (third cs).bare_in ≡ any
 if_bare [] = refl
 if_bare (c ∷ []) = refl
 if_bare (c ∷ (d ∷ [])) = refl
-if_bare (c ∷ (d ∷ (e ∷ cs))) = ap (λ (b : Bool). d.bare_in || b) (sym (or_false e.bare_in))
+if_bare (c ∷ (d ∷ (e ∷ cs))) = ap (λ (b : Bool). d.bare_in || b) (sym (or-false e.bare_in))
 
 yield_bare : (cs : List Attr) → (first cs).bare_in ≡ any_open (layout form.Yield cs) cs
 yield_bare [] = refl
-yield_bare (c ∷ cs) = sym (or_false c.bare_in)
+yield_bare (c ∷ cs) = sym (or-false c.bare_in)
 
 return_bare : (cs : List Attr) → (first cs).bare_in ≡ any_open (layout form.Return cs) cs
 return_bare [] = refl
-return_bare (c ∷ cs) = sym (or_false c.bare_in)
+return_bare (c ∷ cs) = sym (or-false c.bare_in)
 
 prop_bare : (k : Key) (cs : List Attr) → bare (open_of (form.Prop k)) cs ≡ any_open (layout (form.Prop k) cs) cs
 prop_bare key.Fixed cs = shut_second cs ∙ lay_any (layout (form.Prop key.Fixed) cs) cs
@@ -195,7 +195,7 @@ chain_bare : (l : Link) (e : Entry) (cs : List Attr) → (first cs).bare_in ≡ 
 chain_bare link.Name entry.Optional cs = shut_second cs ∙ lay_any (layout (form.Chain link.Name entry.Optional) cs) cs
 chain_bare link.Key entry.Optional cs = shut_second cs ∙ lay_any (layout (form.Chain link.Key entry.Optional) cs) cs
 chain_bare link.Call entry.Optional [] = refl
-chain_bare link.Call entry.Optional (c ∷ cs) = sym (or_false c.bare_in) ∙ ap (λ (b : Bool). c.bare_in || b) (listed_shut (at slot.Assignment) cs cs _ (λ es. refl))
+chain_bare link.Call entry.Optional (c ∷ cs) = sym (or-false c.bare_in) ∙ ap (λ (b : Bool). c.bare_in || b) (listed_shut (at slot.Assignment) cs cs _ (λ es. refl))
 chain_bare link.Name entry.Tail cs = shut_second cs ∙ lay_any (layout (form.Chain link.Name entry.Tail) cs) cs
 chain_bare link.Key entry.Tail cs = shut_second cs ∙ lay_any (layout (form.Chain link.Key entry.Tail) cs) cs
 chain_bare link.Call entry.Tail cs = heads_shut (at slot.Chain) (at slot.Assignment) open_paren (rest cs) cs _ (λ es. refl)
@@ -395,7 +395,7 @@ one_name_lem (c ∷ (d ∷ (e ∷ (f ∷ (g ∷ cs))))) = refl
 
 singled : (f : Form) (cs : List Attr) → whole_of f || (declares f && one_name cs) ≡ single_of f cs
 singled form.Free cs = refl
-singled (form.Name b) cs = or_false (grammar.is_plain b)
+singled (form.Name b) cs = or-false (grammar.is_plain b)
 singled form.Num cs = refl
 singled form.Str cs = refl
 singled (form.Word w) cs = refl
@@ -440,12 +440,12 @@ first_target [] = refl
 first_target (c ∷ cs) = refl
 
 -- all of them together
-pub attributes : (f : Form) (cs : List Attr) (k : Summary) → Sums cs k → (c t i o d w v n : Bool) (b : Begin) → c ≡ is_c (traits_of k.first).standing → t ≡ is_target (traits_of k.first).standing → i ≡ is_in f → o ≡ bare (open_of f) cs → traits.begin_of b ≡ begins (opening_of f) cs → d ≡ dangling (tail_of f) cs → w ≡ whole_of f → v ≡ declares f → n ≡ one_name cs → traits_of (record { form = f; over_call = c; over_target = t; bare_in = i || o; begin = b; dangles = d; single = w || (v && n) }) ≡ attr_of f cs
-attributes f cs k s c t i o d w v n b ec et ei eo eb ed ew ev en =
-    let hc : c ≡ is_c (first_standing cs) = ec ∙ ap (λ (a : Attr). is_c a.standing) s.first ∙ first_call cs in
-    let ht : t ≡ is_target (first_standing cs) = et ∙ ap (λ (a : Attr). is_target a.standing) s.first ∙ first_target cs in
-    let ho : o ≡ any_open (layout f cs) cs = eo ∙ bared f cs in
+pub attributes : (f : Form) (cs : List Attr) (x : Traits) → traits_of x ≡ first cs → (c t i d n : Bool) (b : Begin) → c ≡ is_c (traits_of x).standing → t ≡ is_target (traits_of x).standing → i ≡ is_in f || bare (open_of f) cs → traits.begin_of b ≡ begins (opening_of f) cs → d ≡ dangling (tail_of f) cs → n ≡ whole_of f || (declares f && one_name cs) → traits_of (record { form = f; over_call = c; over_target = t; bare_in = i; begin = b; dangles = d; single = n }) ≡ attr_of f cs
+attributes f cs x ex c t i d n b ec et ei eb ed en =
+    let hc : c ≡ is_c (first_standing cs) = ec ∙ ap (λ (a : Attr). is_c a.standing) ex ∙ first_call cs in
+    let ht : t ≡ is_target (first_standing cs) = et ∙ ap (λ (a : Attr). is_target a.standing) ex ∙ first_target cs in
+    let hi : i ≡ is_in f || any_open (layout f cs) cs = ei ∙ ap (λ (z : Bool). is_in f || z) (bared f cs) in
     let hb : traits.begin_of b ≡ begin_of (layout f cs) cs = eb ∙ begun f cs in
     let hd : d ≡ dangles_of f cs = ed ∙ dangled f cs in
-    let hn : w || (v && n) ≡ single_of f cs = rw (ew, ev, en) (singled f cs) in
-    rw (hc, ht, ei, ho, hb, hd, hn) refl
+    let hn : n ≡ single_of f cs = en ∙ singled f cs in
+    rw (hc, ht, hi, hb, hd, hn) refl

@@ -1,5 +1,6 @@
 -- What each form asks of its children, site by site.
 --
+--   stand ss cs           each of cs may stand at the site of its place in ss, as far as both go
 --   fit_sites ss cs       there are as many children as sites in ss, and each may stand at its site
 --   heads s cs            the first of cs may stand at the site s, and each other where a value does
 --   ends s cs             the last of cs may stand at the site s, and each other is a plain Name
@@ -26,6 +27,11 @@ use Rattle.grammar.specs.Layout.{but_last, init_site, left_site}
 use Rattle.fitting.specs.Summary.{number, last, every, declared}
 use Rattle.fitting.specs.declared.summary.Declared.{Declared}
 use Rattle.fitting.specs.declared.summary.Declared.TheVariants.{Nothing, Complete, Unvalued, Wrong}
+
+abbrev pub stand : List Site → List Attr → Bool
+stand [] cs = true
+stand (s ∷ ss) [] = true
+stand (s ∷ ss) (c ∷ cs) = ok s c && stand ss cs
 
 abbrev pub fit_sites : List Site → List Attr → Bool
 fit_sites [] [] = true

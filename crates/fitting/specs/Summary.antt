@@ -10,7 +10,7 @@
 --   Sums cs k                 k is the summary of children with the attributes cs
 --
 -- Assumes nothing.
-use Rattle.std.specs.Prelude.{ℕ, ◌+◌, ◌≡◌, Bool, true, false, cond, ◌&&◌, ◌||◌, List, [], ◌∷◌, ltb}
+use Rattle.std.specs.Prelude.{ℕ, ◌+◌, ◌≡◌, Bool, true, false, cond, ◌&&◌, ◌||◌, List, [], ◌∷◌, map, ltb}
 use Rattle.kinds.specs.Levels.{standing}
 use Rattle.kinds.specs.declared.form.Form.TheVariants as form
 use Rattle.kinds.specs.declared.level.Slot.TheVariants as slot
@@ -49,6 +49,9 @@ third cs = first (rest (rest cs))
 abbrev pub fourth : List Attr → Attr
 fourth cs = first (rest (rest (rest cs)))
 
+abbrev pub leading : List Attr → List Attr
+leading cs = first cs ∷ (second cs ∷ (third cs ∷ (fourth cs ∷ [])))
+
 abbrev pub last : List Attr → Attr
 last [] = absent
 last (a ∷ []) = a
@@ -78,10 +81,7 @@ declared d (c ∷ cs) = declared (next d c) cs
 
 pub record Sums (cs : List Attr) (k : Summary) : Type 0 where
   pub number : k.number ≡ number cs
-  pub first : traits_of k.first ≡ first cs
-  pub second : traits_of k.second ≡ second cs
-  pub third : traits_of k.third ≡ third cs
-  pub fourth : traits_of k.fourth ≡ fourth cs
+  pub leading : map traits_of k.leading ≡ leading cs
   pub last : traits_of k.last ≡ last cs
   pub values : k.values ≡ every (at slot.Assignment) cs
   pub arguments : k.arguments ≡ every (at slot.Assignment) (rest cs)

@@ -1,6 +1,6 @@
 // What a tree is, from its root's form and the summary of its children.
 
-ghost use Rattle.std.specs.Prelude.{◌≡◌, List};
+ghost use Rattle.std.specs.Prelude.{◌≡◌, ◌&&◌, ◌||◌, List};
 ghost use Rattle.kinds.specs.Levels.{is_c, is_o, is_target};
 ghost use Rattle.grammar.specs.Site.{Attr};
 ghost use Rattle.grammar.specs.Layout.{attr_of, is_in};
@@ -13,7 +13,7 @@ use crate::traits::{Begin, Traits};
 use kinds::{BinaryOperator, Binding, Form, Key, Own, Side, Slot};
 
 /// Which children are in the open, so that an `in` in the open in one of them is in the open in the record.
-#[derive(Clone, Copy)]
+#[derive(Clone, Copy, PartialEq, Eq, Debug)]
 pub enum Open {
     Nothing,
     First,
@@ -28,7 +28,7 @@ pub enum Open {
 }
 
 /// What a record begins with.
-#[derive(Clone, Copy)]
+#[derive(Clone, Copy, PartialEq, Eq, Debug)]
 pub enum Opening {
     /// A token of its own.
     Token(Begin),
@@ -37,7 +37,7 @@ pub enum Opening {
 }
 
 /// Whether an `else` behind a record could be its own.
-#[derive(Clone, Copy)]
+#[derive(Clone, Copy, PartialEq, Eq, Debug)]
 pub enum Tail {
     /// Never.
     Nothing,
@@ -70,6 +70,7 @@ impl Traits {
     }
 }
 
+// The three flags are the fields of `Form::For`: a struct of them would change that form, and with it what the grammar says of it.
 fn open_in_for(init: bool, test: bool, update: bool) -> Open
     ensures { result ≡ for_open init test update }
 {
@@ -112,27 +113,19 @@ fn open_children(form: Form) -> Open
 fn open_in(parts: Open, children: Summary) -> bool
     ensures { (cs : List Attr) → Sums cs children → result ≡ bare parts cs }
 {
-    let first = children.first.bare_in;
-    let second = children.second.bare_in;
-    let third = children.third.bare_in;
+    let [first, second, third, fourth] = children.leading;
     match parts {
         Open::Nothing => false,
-        Open::First => first,
-        Open::Second => second,
+        Open::First => first.bare_in,
+        Open::Second => second.bare_in,
         Open::Last => children.last.bare_in,
-        Open::FirstTwo => first | second,
-        Open::FirstAndThird => first | third,
-        Open::SecondAndThird => second | third,
-        Open::FirstThree => first | (second | third),
-        Open::FirstFour => first | (second | (third | children.fourth.bare_in)),
+        Open::FirstTwo => first.bare_in || second.bare_in,
+        Open::FirstAndThird => first.bare_in || third.bare_in,
+        Open::SecondAndThird => second.bare_in || third.bare_in,
+        Open::FirstThree => first.bare_in || second.bare_in || third.bare_in,
+        Open::FirstFour => first.bare_in || second.bare_in || third.bare_in || fourth.bare_in,
         Open::All => children.bare_in,
     }
-}
-
-fn is_in(form: Form) -> bool
-    ensures { result ≡ is_in form }
-{
-    matches!(form, Form::Bin(BinaryOperator::In))
 }
 
 fn opens_with(form: Form) -> Opening
@@ -162,7 +155,7 @@ fn begins(opening: Opening, children: Summary) -> Begin
 {
     match opening {
         Opening::Token(begin) => begin,
-        Opening::Child => children.first.begin,
+        Opening::Child => children.leading[0].begin,
     }
 }
 
@@ -199,17 +192,25 @@ fn is_whole(form: Form) -> bool
     matches!(form, Form::Name(Binding::Plain) | Form::Num | Form::Str)
 }
 
-fn is_var(form: Form) -> bool
-    ensures { result ≡ declares form }
-{
-    matches!(form, Form::Var)
-}
-
 /// Whether the only child is a Name without a value.
 fn one_name(children: Summary) -> bool
     ensures { (cs : List Attr) → Sums cs children → result ≡ one_name cs }
 {
-    (children.number == 1) & !children.first.is_valued()
+    children.number == 1 && !children.leading[0].is_valued()
+}
+
+/// Whether an `in` stands in the open in the record: its own, or that of a child that is in the open.
+fn has_bare_in(form: Form, children: Summary) -> bool
+    ensures { (cs : List Attr) → Sums cs children → result ≡ (is_in form || bare (open_of form) cs) }
+{
+    form == Form::Bin(BinaryOperator::In) || open_in(open_children(form), children)
+}
+
+/// Whether the record is a single Name, Num or Str, or a Var of a single Name.
+fn is_single(form: Form, children: Summary) -> bool
+    ensures { (cs : List Attr) → Sums cs children → result ≡ (whole_of form || (declares form && one_name cs)) }
+{
+    is_whole(form) || form == Form::Var && one_name(children)
 }
 
 /// What a tree is whose root has this form, and its children that summary.
@@ -219,11 +220,11 @@ pub fn traits_of(form: Form, children: Summary) -> Traits
 {
     Traits {
         form,
-        over_call: children.first.is_call(),
-        over_target: children.first.is_target(),
-        bare_in: is_in(form) | open_in(open_children(form), children),
+        over_call: children.leading[0].is_call(),
+        over_target: children.leading[0].is_target(),
+        bare_in: has_bare_in(form, children),
         begin: begins(opens_with(form), children),
         dangles: dangles(tail_of(form), children),
-        single: is_whole(form) | (is_var(form) & one_name(children)),
+        single: is_single(form, children),
     }
 }

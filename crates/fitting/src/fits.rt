@@ -1,15 +1,16 @@
 // Whether the children of a record may stand where they stand, for every form.
 
-ghost use Rattle.std.specs.Prelude.{◌≡◌, ◌||◌, List};
+ghost use Rattle.std.specs.Prelude.{◌≡◌, ◌≤◌, ◌||◌, List, length, map};
 ghost use Rattle.grammar.specs.Site.{Attr, init, stmt};
 ghost use Rattle.grammar.specs.Layout.{layout, fit_kids, init_site, left_site};
-ghost use Rattle.fitting.specs.Traits.{site_of};
+ghost use Rattle.fitting.specs.Traits.{site_of, traits_of};
 ghost use Rattle.fitting.specs.Summary.{Sums};
-ghost use Rattle.fitting.specs.Sites.{none as none_of, one as one_of, two as two_of, three as three_of, four as four_of, heads as heads_of, ends as ends_of, asks_key, asks_link, asks_for, asks, is_complete, entry_site};
+ghost use Rattle.fitting.specs.Sites.{stand, fit_sites, none as none_of, one as one_of, heads as heads_of, ends as ends_of, asks_key, asks_link, asks_for, asks, is_complete, entry_site};
 ghost use Rattle.kinds.specs.declared.form.Form.TheVariants as form;
 
 use crate::site::Site;
 use crate::summary::{Declared, Summary};
+use crate::traits::Traits;
 use kinds::level::{left_slot, right_slot};
 use kinds::{Arguments, Entry, Form, Key, Link, Own, Slot};
 
@@ -24,67 +25,48 @@ impl Declared {
     pub fn is_complete(self) -> bool
         ensures { result ≡ is_complete self }
     {
-        matches!(self, Declared::Complete)
+        self == Declared::Complete
     }
 }
 
+/// Whether each child may stand at the site of its place, as far as there are children and sites.
+fn stand(children: &[Traits], sites: &[Site]) -> bool
+    ensures { result ≡ stand (map site_of sites.now) (map traits_of children.now) }
+{
+    children
+        .iter()
+        .zip(sites)
+        .all(|(child, site)| child.may_stand(*site))
+}
+
 impl Summary {
-    /// Whether there are no children.
-    fn none(self) -> bool
-        ensures { (cs : List Attr) → Sums cs self → result ≡ none_of cs }
+    /// Whether there are as many children as sites, and each may stand at its site.
+    fn exactly(self, sites: &[Site]) -> bool
+        requires { length sites.now ≤ 4 }
+        ensures { (cs : List Attr) → Sums cs self → result ≡ fit_sites (map site_of sites.now) cs }
     {
-        self.number == 0
-    }
-
-    /// Whether there is one child, and it may stand at the site; alike for more.
-    fn one(self, only: Site) -> bool
-        ensures { (cs : List Attr) → Sums cs self → result ≡ one_of (site_of only) cs }
-    {
-        (self.number == 1) & self.first.may_stand(only)
-    }
-
-    fn two(self, first: Site, second: Site) -> bool
-        ensures { (cs : List Attr) → Sums cs self → result ≡ two_of (site_of first) (site_of second) cs }
-    {
-        (self.number == 2) & (self.first.may_stand(first) & self.second.may_stand(second))
-    }
-
-    fn three(self, first: Site, second: Site, third: Site) -> bool
-        ensures { (cs : List Attr) → Sums cs self → result ≡ three_of (site_of first) (site_of second) (site_of third) cs }
-    {
-        (self.number == 3)
-            & (self.first.may_stand(first)
-                & (self.second.may_stand(second) & self.third.may_stand(third)))
-    }
-
-    fn four(self, first: Site, second: Site, third: Site, fourth: Site) -> bool
-        ensures { (cs : List Attr) → Sums cs self → result ≡ four_of (site_of first) (site_of second) (site_of third) (site_of fourth) cs }
-    {
-        (self.number == 4)
-            & (self.first.may_stand(first)
-                & (self.second.may_stand(second)
-                    & (self.third.may_stand(third) & self.fourth.may_stand(fourth))))
+        usize::from(self.number) == sites.len() && stand(&self.leading, sites)
     }
 
     /// Whether the first child may stand at the site, and each other where a value does.
     fn heads(self, first: Site) -> bool
         ensures { (cs : List Attr) → Sums cs self → result ≡ heads_of (site_of first) cs }
     {
-        (self.number > 0) & (self.first.may_stand(first) & self.arguments)
+        self.number > 0 && self.leading[0].may_stand(first) && self.arguments
     }
 
     /// Whether the last child may stand at the site, and each other is a plain Name.
     fn ends(self, last: Site) -> bool
         ensures { (cs : List Attr) → Sums cs self → result ≡ ends_of (site_of last) cs }
     {
-        (self.number > 0) & (self.parameters & self.last.may_stand(last))
+        self.number > 0 && self.parameters && self.last.may_stand(last)
     }
 
     /// Where the first child of a For stands, if it is its init.
     fn init_site(self) -> Site
         ensures { (cs : List Attr) → Sums cs self → site_of result ≡ init_site cs }
     {
-        if self.first.is_declaration() {
+        if self.leading[0].is_declaration() {
             Site::VarInit
         } else {
             Site::Init
@@ -95,7 +77,7 @@ impl Summary {
     fn left_site(self) -> Site
         ensures { (cs : List Attr) → Sums cs self → site_of result ≡ left_site cs }
     {
-        if self.first.is_declaration() {
+        if self.leading[0].is_declaration() {
             Site::VarIn
         } else {
             Site::At(Slot::Target)
@@ -108,23 +90,28 @@ fn link_fits(link: Link, children: Summary, before: Site) -> bool
     ensures { (cs : List Attr) → Sums cs children → result ≡ asks_link (site_of before) link cs }
 {
     match link {
-        Link::Name => children.two(before, Site::PlainName),
-        Link::Key => children.two(before, ANY),
+        Link::Name => children.exactly(&[before, Site::PlainName]),
+        Link::Key => children.exactly(&[before, ANY]),
         Link::Call => children.heads(before),
     }
 }
 
+// The three flags are the fields of `Form::For`, as in `open_in_for`.
 /// The three parts of a For's head that are there, and its body.
 fn head_fits(init: bool, test: bool, update: bool, first: Site, children: Summary) -> bool
     ensures { (cs : List Attr) → Sums cs children → result ≡ asks_for init test update (site_of first) cs }
 {
     match (init, test, update) {
-        (true, true, true) => children.four(first, ANY, ANY, Site::Statement),
-        (true, true, false) | (true, false, true) => children.three(first, ANY, Site::Statement),
-        (true, false, false) => children.two(first, Site::Statement),
-        (false, true, true) => children.three(ANY, ANY, Site::Statement),
-        (false, true, false) | (false, false, true) => children.two(ANY, Site::Statement),
-        (false, false, false) => children.one(Site::Statement),
+        (true, true, true) => children.exactly(&[first, ANY, ANY, Site::Statement]),
+        (true, true, false) | (true, false, true) => children.exactly(&[
+            first,
+            ANY,
+            Site::Statement,
+        ]),
+        (true, false, false) => children.exactly(&[first, Site::Statement]),
+        (false, true, true) => children.exactly(&[ANY, ANY, Site::Statement]),
+        (false, true, false) | (false, false, true) => children.exactly(&[ANY, Site::Statement]),
+        (false, false, false) => children.exactly(&[Site::Statement]),
     }
 }
 
@@ -138,14 +125,14 @@ fn for_fits(init: bool, test: bool, update: bool, children: Summary) -> bool
 fn for_in_fits(children: Summary) -> bool
     ensures { (cs : List Attr) → Sums cs children → result ≡ asks form.ForIn cs }
 {
-    children.three(children.left_site(), ANY, Site::Statement)
+    children.exactly(&[children.left_site(), ANY, Site::Statement])
 }
 
 /// No child, or one at the site.
 fn at_most_one(children: Summary, only: Site) -> bool
     ensures { (cs : List Attr) → Sums cs children → result ≡ (none_of cs || one_of (site_of only) cs) }
 {
-    children.none() | children.one(only)
+    children.exactly(&[]) || children.exactly(&[only])
 }
 
 /// A test and one body, or two of which the first leaves the `else` alone.
@@ -153,9 +140,9 @@ fn if_fits(children: Summary) -> bool
     ensures { (cs : List Attr) → Sums cs children → result ≡ asks form.If cs }
 {
     if children.number == 2 {
-        children.two(ANY, Site::Statement)
+        children.exactly(&[ANY, Site::Statement])
     } else {
-        children.three(ANY, Site::Closed, Site::Statement)
+        children.exactly(&[ANY, Site::Closed, Site::Statement])
     }
 }
 
@@ -164,7 +151,7 @@ fn new_fits(arguments: Arguments, children: Summary) -> bool
 {
     match arguments {
         Arguments::Listed => children.heads(Site::At(Slot::Member)),
-        Arguments::Unlisted => children.one(Site::At(Slot::New)),
+        Arguments::Unlisted => children.exactly(&[Site::At(Slot::New)]),
     }
 }
 
@@ -172,8 +159,8 @@ fn prop_fits(key: Key, children: Summary) -> bool
     ensures { (cs : List Attr) → Sums cs children → result ≡ asks (form.Prop key) cs }
 {
     match key {
-        Key::Fixed => children.two(Site::KeyName, VALUE),
-        Key::Computed => children.two(VALUE, VALUE),
+        Key::Fixed => children.exactly(&[Site::KeyName, VALUE]),
+        Key::Computed => children.exactly(&[VALUE, VALUE]),
     }
 }
 
@@ -202,7 +189,7 @@ fn fn_fits(own: Own, children: Summary) -> bool
     let ends = children.ends(Site::FunctionBody);
     match own {
         Own::Nameless => ends,
-        Own::Named => (children.number >= 2) & ends,
+        Own::Named => children.number >= 2 && ends,
     }
 }
 
@@ -218,22 +205,22 @@ fn satisfied(form: Form, children: Summary) -> bool
         | Form::Word(_)
         | Form::This
         | Form::Empty
-        | Form::Hole(_) => children.none(),
+        | Form::Hole(_) => children.exactly(&[]),
         Form::Array => children.values,
         Form::Object => children.properties,
         Form::Prop(key) => prop_fits(key, children),
         Form::Fn(own) => fn_fits(own, children),
         Form::Arrow => children.ends(Site::Body),
-        Form::Unary(_) | Form::Await => children.one(Site::At(Slot::Unary)),
-        Form::Update(_, _) => children.one(Site::At(Slot::Target)),
-        Form::Bin(operator) => children.two(
+        Form::Unary(_) | Form::Await => children.exactly(&[Site::At(Slot::Unary)]),
+        Form::Update(_, _) => children.exactly(&[Site::At(Slot::Target)]),
+        Form::Bin(operator) => children.exactly(&[
             Site::At(left_slot(operator)),
             Site::At(right_slot(operator)),
-        ),
-        Form::Assign(_) => children.two(Site::At(Slot::Target), VALUE),
-        Form::Cond => children.three(Site::At(Slot::ShortCircuit), VALUE, VALUE),
-        Form::Seq => (children.number >= 2) & children.values,
-        Form::Paren => children.one(ANY),
+        ]),
+        Form::Assign(_) => children.exactly(&[Site::At(Slot::Target), VALUE]),
+        Form::Cond => children.exactly(&[Site::At(Slot::ShortCircuit), VALUE, VALUE]),
+        Form::Seq => children.number >= 2 && children.values,
+        Form::Paren => children.exactly(&[ANY]),
         Form::Call => children.heads(Site::At(Slot::Call)),
         Form::New(arguments) => new_fits(arguments, children),
         Form::Member(key) => member_fits(key, children),
@@ -241,13 +228,13 @@ fn satisfied(form: Form, children: Summary) -> bool
         Form::Yield => at_most_one(children, VALUE),
         Form::Return => at_most_one(children, ANY),
         Form::Script | Form::Block => children.statements,
-        Form::ExprStmt => children.one(Site::Start),
+        Form::ExprStmt => children.exactly(&[Site::Start]),
         Form::Var => children.declared.is_complete(),
         Form::If => if_fits(children),
-        Form::While => children.two(ANY, Site::Statement),
+        Form::While => children.exactly(&[ANY, Site::Statement]),
         Form::For { init, test, update } => for_fits(init, test, update, children),
         Form::ForIn => for_in_fits(children),
-        Form::Labeled => children.two(Site::PlainName, Site::Statement),
+        Form::Labeled => children.exactly(&[Site::PlainName, Site::Statement]),
     }
 }
 

@@ -3,7 +3,7 @@
 use kinds::Slot;
 
 /// Where a tree can stand in a record.
-#[derive(Clone, Copy)]
+#[derive(Clone, Copy, PartialEq, Eq, Debug)]
 pub enum Site {
     /// An expression in a slot.
     At(Slot),

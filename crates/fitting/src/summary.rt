@@ -1,4 +1,5 @@
 // What is kept of the children of a record: enough to say of every form whether they may stand where they stand.
+// Contracts take the children's attributes beside a summary: it keeps no list that a model or an invariant could name.
 
 ghost use Rattle.std.specs.Prelude.{◌≡◌, cond, List, [], ◌∷◌, ◌++◌};
 ghost use Rattle.grammar.specs.Site.{Attr};
@@ -10,7 +11,7 @@ use crate::traits::Traits;
 use kinds::Slot;
 
 /// How far the Names and values of a Var have come.
-#[derive(Clone, Copy)]
+#[derive(Clone, Copy, PartialEq, Eq, Debug)]
 pub enum Declared {
     /// There is no Name yet.
     Nothing,
@@ -51,13 +52,10 @@ impl Declared {
 
 /// The children of a record: their number up to five (no form has a fixed number above four), the traits of the first
 /// four and of the last, `ABSENT` where there is none; and what holds of all of them, or of all but one.
-#[derive(Clone, Copy)]
+#[derive(Clone, Copy, PartialEq, Eq, Debug)]
 pub struct Summary {
     pub number: u8,
-    pub first: Traits,
-    pub second: Traits,
-    pub third: Traits,
-    pub fourth: Traits,
+    pub leading: [Traits; 4],
     pub last: Traits,
     /// Each may stand where a value does.
     pub values: bool,
@@ -77,12 +75,6 @@ pub struct Summary {
     pub declared: Declared,
 }
 
-fn chosen(now: bool, child: Traits, kept: Traits) -> Traits
-    ensures { result ≡ cond now child kept }
-{
-    if now { child } else { kept }
-}
-
 fn one_more(number: u8) -> u8
     ensures { result ≡ more number }
 {
@@ -96,10 +88,7 @@ impl Summary {
     {
         Summary {
             number: 0,
-            first: Traits::ABSENT,
-            second: Traits::ABSENT,
-            third: Traits::ABSENT,
-            fourth: Traits::ABSENT,
+            leading: [Traits::ABSENT; 4],
             last: Traits::ABSENT,
             values: true,
             arguments: true,
@@ -118,12 +107,14 @@ impl Summary {
     {
         let value = child.may_stand(Site::At(Slot::Assignment));
         let name = child.may_stand(Site::PlainName);
+        let mut leading = self.leading;
+        if self.number < 4 {
+            leading[self.number as usize] = child;
+        }
+        // `&` and `|`: both sides are at hand, and each `&&` would be a fork that the proof joins again.
         Summary {
             number: one_more(self.number),
-            first: chosen(self.number == 0, child, self.first),
-            second: chosen(self.number == 1, child, self.second),
-            third: chosen(self.number == 2, child, self.third),
-            fourth: chosen(self.number == 3, child, self.fourth),
+            leading,
             last: child,
             values: self.values & value,
             arguments: (self.number == 0) | (self.arguments & value),

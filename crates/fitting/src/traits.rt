@@ -10,7 +10,7 @@ use kinds::level::fits;
 use kinds::{Binding, Form, Slot};
 
 /// The first token, as far as start rules ask.
-#[derive(Clone, Copy)]
+#[derive(Clone, Copy, PartialEq, Eq, Debug)]
 pub enum Begin {
     Brace,
     Function,
@@ -20,7 +20,7 @@ pub enum Begin {
 /// What is kept of a tree: its root's form, whether its first child is a call (class C) and whether that is a target,
 /// whether an `in` stands in the open in it, what it begins with, whether an `else` behind it would be its own, and
 /// whether it is a single Name, Num or Str, or a Var of a single Name.
-#[derive(Clone, Copy)]
+#[derive(Clone, Copy, PartialEq, Eq, Debug)]
 pub struct Traits {
     pub form: Form,
     pub over_call: bool,
@@ -36,14 +36,14 @@ impl Begin {
     pub fn is_brace(self) -> bool
         ensures { result ≡ is_brace (begin_of self) }
     {
-        matches!(self, Begin::Brace)
+        self == Begin::Brace
     }
 
     /// Whether it is neither `{` nor `function`.
     pub fn is_other(self) -> bool
         ensures { result ≡ is_other (begin_of self) }
     {
-        matches!(self, Begin::Other)
+        self == Begin::Other
     }
 }
 

@@ -8,14 +8,14 @@ use crate::operator::{BinaryOperator, Side, UnaryOperator, UpdateOperator};
 use token::AssignOperator;
 
 /// Whether a Name of a Var has a value next to it. Everywhere else a Name is `Plain`.
-#[derive(Clone, Copy)]
+#[derive(Clone, Copy, PartialEq, Eq, Debug)]
 pub enum Binding {
     Plain,
     Valued,
 }
 
 /// The words that are values.
-#[derive(Clone, Copy)]
+#[derive(Clone, Copy, PartialEq, Eq, Debug)]
 pub enum Constant {
     Null,
     True,
@@ -24,28 +24,28 @@ pub enum Constant {
 
 /// How a property is named: by a fixed name (in an object also by a string or a number), or by an expression in
 /// square brackets.
-#[derive(Clone, Copy)]
+#[derive(Clone, Copy, PartialEq, Eq, Debug)]
 pub enum Key {
     Fixed,
     Computed,
 }
 
 /// Whether a function has a name of its own.
-#[derive(Clone, Copy)]
+#[derive(Clone, Copy, PartialEq, Eq, Debug)]
 pub enum Own {
     Nameless,
     Named,
 }
 
 /// Whether a `new` has a list of arguments.
-#[derive(Clone, Copy)]
+#[derive(Clone, Copy, PartialEq, Eq, Debug)]
 pub enum Arguments {
     Listed,
     Unlisted,
 }
 
 /// What a link of an optional chain does to the value before it.
-#[derive(Clone, Copy)]
+#[derive(Clone, Copy, PartialEq, Eq, Debug)]
 pub enum Link {
     /// `a?.b`, `a?.b.c`
     Name,
@@ -56,21 +56,21 @@ pub enum Link {
 }
 
 /// How a link of an optional chain begins: with `?.`, or as a tail without it.
-#[derive(Clone, Copy)]
+#[derive(Clone, Copy, PartialEq, Eq, Debug)]
 pub enum Entry {
     Optional,
     Tail,
 }
 
 /// What stood where a hole is.
-#[derive(Clone, Copy)]
+#[derive(Clone, Copy, PartialEq, Eq, Debug)]
 pub enum Sort {
     Expression,
     Statement,
 }
 
 /// A kind with its operator, or with which of its optional parts are there. A free record has neither.
-#[derive(Clone, Copy)]
+#[derive(Clone, Copy, PartialEq, Eq, Debug)]
 pub enum Form {
     Free,
     Name(Binding),

@@ -5,7 +5,7 @@ ghost use Rattle.kinds.specs.Kinds.{rank};
 
 /// What a record is. `Free` is the kind of a record that stands in no tree; the others follow in the order of
 /// their ranks, which count from 1, so that `kind as u8` is the rank.
-#[derive(Clone, Copy)]
+#[derive(Clone, Copy, PartialEq, Eq, Debug)]
 pub enum Kind {
     Free,
     Name,

@@ -8,7 +8,7 @@ use crate::form::{Arguments, Binding, Form};
 use crate::operator::BinaryOperator;
 
 /// The four classes of level 16, the tightest. Every looser expression is of no class.
-#[derive(Clone, Copy)]
+#[derive(Clone, Copy, PartialEq, Eq, Debug)]
 pub enum Class {
     /// `new` without a list of arguments.
     N,
@@ -21,7 +21,7 @@ pub enum Class {
 }
 
 /// A place for an expression, named after the nonterminal of the language's standard that it is.
-#[derive(Clone, Copy)]
+#[derive(Clone, Copy, PartialEq, Eq, Debug)]
 pub enum Slot {
     /// Level 0 up: every expression.
     Expression,
@@ -147,6 +147,8 @@ pub fn target(form: Form, over_target: bool) -> bool
 
 /// Whether an expression may stand bare in a slot, told whether its first child is of the class C, and a target. It is asked of expressions
 /// only: any other form counts as level 16 and class M, so it seems to fit most slots.
+// The form and what is asked of its first child are three parameters: this is the only function that takes them all, and a struct of
+// them would have to be built and named at each call.
 pub fn fits(slot: Slot, form: Form, over_call: bool, over_target: bool) -> bool
     ensures { result ≡ fits slot (standing form over_call over_target) }
 {
@@ -154,9 +156,9 @@ pub fn fits(slot: Slot, form: Form, over_call: bool, over_target: bool) -> bool
         (Slot::Expression, _, _) => true,
         (Slot::Assignment, _, 1..=16) => true,
         (Slot::ShortCircuit, _, 3..=16) => true,
-        (Slot::LogicalOr, Form::Bin(op), 3) if matches!(op, BinaryOperator::Or) => true,
+        (Slot::LogicalOr, Form::Bin(BinaryOperator::Or), _) => true,
         (Slot::LogicalOr, _, 4..=16) => true,
-        (Slot::Coalesce, Form::Bin(op), 3) if matches!(op, BinaryOperator::Coalesce) => true,
+        (Slot::Coalesce, Form::Bin(BinaryOperator::Coalesce), _) => true,
         (Slot::Coalesce, _, 5..=16) => true,
         (Slot::LogicalAnd, _, 4..=16) => true,
         (Slot::BitwiseOr, _, 5..=16) => true,
@@ -171,13 +173,13 @@ pub fn fits(slot: Slot, form: Form, over_call: bool, over_target: bool) -> bool
         (Slot::Unary, _, 14..=16) => true,
         (Slot::Update, _, 15..=16) => true,
         (Slot::New, _, _) => matches!(class_of(form, over_call), Some(Class::M | Class::N)),
-        (Slot::Member, _, _) => matches!(class_of(form, over_call), Some(Class::M)),
+        (Slot::Member, _, _) => class_of(form, over_call) == Some(Class::M),
         (Slot::Call, _, _) => matches!(class_of(form, over_call), Some(Class::M | Class::C)),
         (Slot::Optional, _, _) => matches!(
             class_of(form, over_call),
             Some(Class::M | Class::C | Class::O)
         ),
-        (Slot::Chain, _, _) => matches!(class_of(form, over_call), Some(Class::O)),
+        (Slot::Chain, _, _) => class_of(form, over_call) == Some(Class::O),
         (Slot::Target, _, _) => target(form, over_target),
         (Slot::Identifier, Form::Name(Binding::Plain), _) => true,
         (Slot::PropertyName, Form::Name(Binding::Plain) | Form::Num | Form::Str, _) => true,

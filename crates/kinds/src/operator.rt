@@ -1,7 +1,7 @@
 // The operators that a record can hold, apart from those that assign (the tokens' own enum serves for these).
 
 /// What stands before its operand.
-#[derive(Clone, Copy)]
+#[derive(Clone, Copy, PartialEq, Eq, Debug)]
 pub enum UnaryOperator {
     /// `-`
     Minus,
@@ -20,7 +20,7 @@ pub enum UnaryOperator {
 }
 
 /// What counts its target up or down.
-#[derive(Clone, Copy)]
+#[derive(Clone, Copy, PartialEq, Eq, Debug)]
 pub enum UpdateOperator {
     /// `++`
     Increment,
@@ -29,14 +29,14 @@ pub enum UpdateOperator {
 }
 
 /// On which side of its target an update stands.
-#[derive(Clone, Copy)]
+#[derive(Clone, Copy, PartialEq, Eq, Debug)]
 pub enum Side {
     Before,
     After,
 }
 
 /// What stands between two operands, from the loosest to the tightest.
-#[derive(Clone, Copy)]
+#[derive(Clone, Copy, PartialEq, Eq, Debug)]
 pub enum BinaryOperator {
     /// `??`
     Coalesce,
