@@ -18,8 +18,8 @@ use Rattle.recognizer.specs.Width.{Scripted}
 use Rattle.reader.specs.Rows.{single}
 use Rattle.reader.specs.declared.sink.Row.{Row}
 use Rattle.recognizer.specs.declared.found.Found.{Found}
-use Rattle.reader.specs.declared.tree.Unread.{Unread}
-use Rattle.reader.specs.declared.tree.Unread.TheVariants.{NoDerivation, TooDeep}
+use Rattle.reader.specs.declared.unread.Unread.{Unread}
+use Rattle.reader.specs.declared.unread.Unread.TheVariants.{NoDerivation, TooDeep}
 
 -- what is found is the tree that the tokens derive
 pub the_tree : {K : Type 0} (ts : List Token) (R : K → K → Row → Forest → Type 0) (e x : K) (f : Found) → Scripted ts R e x f → (t : Tree) → claim.Reads ts t → R x e (single f.slot) (t ▸ nil)

@@ -18,13 +18,13 @@ use Rattle.reader.specs.Table.{view}
 use Rattle.reader.specs.Reads.{Reads}
 use Rattle.recognizer.specs.Reads.{Shape, Started, Made, NotMade}
 use Rattle.reader.specs.Width.{NotScript, refused_of}
-use Rattle.recognizer.specs.Width.{Scripted}
+use Rattle.recognizer.specs.Width.{Whole, Scripted}
 use Rattle.recognizer.specs.declared.found.Found.{Found}
 use Rattle.recognizer.specs.declared.found.Parts.{Parts}
-use Rattle.reader.specs.declared.tree.Unread.{Unread}
-use Rattle.reader.specs.declared.tree.Unread.TheVariants.{NoDerivation, TooDeep}
+use Rattle.reader.specs.declared.unread.Unread.{Unread}
+use Rattle.reader.specs.declared.unread.Unread.TheVariants.{NoDerivation, TooDeep}
 use Rattle.reader.proofs.Fuel.{raise_p, bind_inv, some_one}
-use Rattle.reader.proofs.Width.{width, depths_sizes}
+use Rattle.reader.proofs.Width.{width, depth_size, depths_sizes}
 use Rattle.recognizer.proofs.Trees.{shape_node, holds_nil, row_at}
 use Rattle.reader.specs.Rows.{single}
 use Rattle.reader.specs.declared.sink.Row.{Row}
@@ -155,34 +155,35 @@ module _ (ts : List Token) (r0 : Row) (p : Parts) (st : Started ts 0 r0 p) where
     unfolding view
     left_over lt u d = let e : length {A = Token} [] ≡ length (drop f.end ts) = ap length (only u d).1 in absurd (omega (arith, e, length-drop f.end ts))
 
-    pub unfit : not f.good ≡ true → NotScript ts NoDerivation
-    unfit n u d =
-        let g : good t0 ≡ true = T_true (good t0) (subst Good (only u d).0 (derived_good ts u d).1) in
-        let z : true ≡ false = sym g ∙ shaped.fit ∙ not_true f.good n in
-        let x : ◌≡◌ {A = ℕ} 0 1 = cc in
-        omega arith
+    pub whole : R e0 e0 r0 nil → length ts ≤ f.end → Whole ts R e0 x0 f
+    unfolding view
+    whole rn le = record { tree = t0; shape = shaped; found = subst (λ (r : List Token). Reads true scr ts t0 r) (drop_of_length-le ts le) scr_reads; only = λ u d. (only u d).0; few = omega (arith, m.few, m.within, st.records, st.end); row = kept rn }
 
-    module _ (le : length ts ≤ f.end) (fit : not f.good ≡ false) where
-      read_all : Reads true scr ts t0 []
-      unfolding view
-      read_all = subst (λ (r : List Token). Reads true scr ts t0 r) (drop_of_length-le ts le) scr_reads
+-- Whether its children fit, and how deep it nests.
+begun_script : (ts : List Token) (y : Ran) → y.form ≡ form.Script → T (ok root (attr (begun ts y)))
+unfolding attr
+begun_script ts y e = subst (λ (g : Form). T (eqb 6 (sort_rank (sort_of g)))) (sym e) tt
 
-      a_script : T (ok root (attr t0))
-      unfolding attr
-      a_script =
-          let e : f.traits.form ≡ form.Script = scripts m.run.1.0 true form.Script p.hi (view ts p.end) _ (m.run.1.1 m.run.1.0 (omega arith)) in
-          subst (λ (g : Form). T (eqb 6 (sort_rank (sort_of g)))) (sym e) tt
+module _ {K : Type 0} (ts : List Token) (R : K → K → Row → Forest → Type 0) (e0 x0 : K) (f : Found) (w : Whole ts R e0 x0 f) where
+  pub unfit : not f.good ≡ true → NotScript ts NoDerivation
+  unfit n u d =
+      let g : good w.tree ≡ true = T_true (good w.tree) (subst Good (w.only u d) (derived_good ts u d).1) in
+      let z : true ≡ false = sym g ∙ w.shape.fit ∙ not_true f.good n in
+      let x : ◌≡◌ {A = ℕ} 0 1 = cc in
+      omega arith
 
-      -- a good tree that is written with the tokens has a reading, and no other tree can be one
-      derived : claim.Reads ts t0
-      derived =
-          let k : ℕ = read_all.0 in
-          let w = found_written k true scr ts t0 [] (read_all.1 k (omega arith)) in
-          let (u, e, d) = good_derives ts t0 a_script (subst T (sym (shaped.fit ∙ not_false f.good fit)) tt) (sym w) in
-          subst (λ (v : Tree). claim.Reads ts v) (only u d).0 d
+  pub too_deep : 511 < f.under → NotScript ts TooDeep
+  too_deep lt = (omega (arith, w.few, w.shape.records, w.shape.nests, depth_size w.tree), λ u d. subst (λ (t : Tree). 512 < depth t) (sym (w.only u d)) (omega (arith, w.shape.nests)))
 
-      pub too_deep : 511 < f.under → NotScript ts TooDeep
-      too_deep lt = (omega (arith, m.few, m.nests, m.within, st.records, st.end), λ u d. subst (λ (t : Tree). 512 < depth t) (sym (only u d).0) (omega (arith, shaped.nests)))
+  a_script : T (ok root (attr w.tree))
+  a_script = let (m, y, h1, h2, h3) = scr_inv w.found.0 ts w.tree [] (w.found.1 w.found.0 (omega arith)) in subst (λ (t : Tree). T (ok root (attr t))) h2 (begun_script ts y (scripts m true form.Script 0 ts y h1))
 
-      pub scripted : R e0 e0 r0 nil → f.under ≤ 511 → Scripted ts R e0 x0 f
-      scripted rn un = record { tree = t0; derived = derived; shape = shaped; nests = omega (arith, shaped.nests); few = omega (arith, m.few, m.within, st.records, st.end); row = kept rn }
+  -- a good tree that is written with the tokens has a reading, and no other tree can be one
+  derived : not f.good ≡ false → claim.Reads ts w.tree
+  derived fit =
+      let v = found_written w.found.0 true scr ts w.tree [] (w.found.1 w.found.0 (omega arith)) in
+      let (u, e, d) = good_derives ts w.tree a_script (subst T (sym (w.shape.fit ∙ not_false f.good fit)) tt) (sym v) in
+      subst (λ (t : Tree). claim.Reads ts t) (w.only u d) d
+
+  pub scripted : not f.good ≡ false → f.under ≤ 511 → Scripted ts R e0 x0 f
+  scripted fit un = record { tree = w.tree; derived = derived fit; shape = w.shape; nests = omega (arith, w.shape.nests); few = w.few; row = w.row }

@@ -16,8 +16,8 @@ use Rattle.reader.specs.Rows.{single}
 use Rattle.reader.specs.declared.sink.Row.{Row}
 use Rattle.recognizer.specs.declared.found.Found.{Found}
 use Rattle.recognizer.specs.declared.found.Parts.{Parts}
-use Rattle.reader.specs.declared.tree.Unread.{Unread}
-use Rattle.reader.specs.declared.tree.Unread.TheVariants.{NoDerivation, TooDeep}
+use Rattle.reader.specs.declared.unread.Unread.{Unread}
+use Rattle.reader.specs.declared.unread.Unread.TheVariants.{NoDerivation, TooDeep}
 use Rattle.reader.proofs.Fuel.{raise_p, bind_inv, grow}
 use Rattle.reader.proofs.Eats.{own_true, frame_eats}
 

@@ -26,7 +26,7 @@ use Rattle.reader.specs.declared.sink.Row.{Row}
 use Rattle.reader.specs.Reads.{own, Reads, Runs, graft, Bad}
 use Rattle.recognizer.specs.declared.found.Found.{Found}
 use Rattle.recognizer.specs.declared.found.Parts.{Parts}
-use Rattle.reader.specs.declared.tree.Unread.{Unread}
+use Rattle.reader.specs.declared.unread.Unread.{Unread}
 
 abbrev pub standing_of : Found → Standing
 standing_of f = (traits_of f.traits).standing

@@ -48,74 +48,78 @@ fn lo_at(tokens: &[Token], at: usize) -> u32
     if at < tokens.len() { tokens[at].lo } else { 0 }
 }
 
-/// A record that begins at `at`, over a row of no trees.
-pub fn start_at(tokens: &[Token], at: usize, row: Row) -> Parts
-    requires { at ≤ length tokens.now }
-    ensures { Started tokens.now at row result }
-{
-    Parts {
-        children: Summary::empty(),
-        good: true,
-        lo: lo_at(tokens, at),
-        hi: 0,
-        end: at,
-        size: 0,
-        depth: 0,
-        row,
+impl Found {
+    /// The parts of a record whose first child this is.
+    pub fn alone(self) -> Parts
+        requires few { self.below < self.end }
+        requires nests { self.under ≤ self.below }
+        ensures { Alone self result }
+    {
+        Parts {
+            children: Summary::empty().with(self.traits),
+            good: self.good,
+            lo: self.lo,
+            hi: self.hi,
+            end: self.end,
+            size: self.below + 1,
+            depth: self.under + 1,
+            row: Row {
+                first: self.slot,
+                last: self.slot,
+            },
+        }
     }
 }
 
-/// A record whose first child is `found`.
-pub fn start_with(found: Found) -> Parts
-    requires few { found.below < found.end }
-    requires nests { found.under ≤ found.below }
-    ensures { Alone found result }
-{
-    Parts {
-        children: Summary::empty().with(found.traits),
-        good: found.good,
-        lo: found.lo,
-        hi: found.hi,
-        end: found.end,
-        size: found.below + 1,
-        depth: found.under + 1,
-        row: Row {
-            first: found.slot,
-            last: found.slot,
-        },
+impl Parts {
+    /// A record that begins at `at`, over a row of no trees.
+    pub fn start(tokens: &[Token], at: usize, row: Row) -> Parts
+        requires { at ≤ length tokens.now }
+        ensures { Started tokens.now at row result }
+    {
+        Parts {
+            children: Summary::empty(),
+            good: true,
+            lo: lo_at(tokens, at),
+            hi: 0,
+            end: at,
+            size: 0,
+            depth: 0,
+            row,
+        }
     }
-}
 
-/// The parts with one more child, which makes the row of them `row`.
-pub fn join(parts: Parts, child: Found, row: Row) -> Parts
-    requires few { parts.size + child.below < child.end }
-    requires nests { child.under ≤ child.below }
-    ensures { Joined parts child row result }
-{
-    Parts {
-        children: parts.children.with(child.traits),
-        good: parts.good & child.good,
-        lo: parts.lo,
-        hi: child.hi,
-        end: child.end,
-        size: parts.size + child.below + 1,
-        depth: parts.depth.max(child.under + 1),
-        row,
+    /// The parts with one more child, which makes the row of them `row`.
+    pub fn join(self, child: Found, row: Row) -> Parts
+        requires few { self.size + child.below < child.end }
+        requires nests { child.under ≤ child.below }
+        ensures { Joined self child row result }
+    {
+        Parts {
+            children: self.children.with(child.traits),
+            good: self.good & child.good,
+            lo: self.lo,
+            hi: child.hi,
+            end: child.end,
+            size: self.size + child.below + 1,
+            depth: self.depth.max(child.under + 1),
+            row,
+        }
     }
-}
 
-/// The record of this form over all its parts, kept at `slot`.
-pub fn complete(parts: Parts, form: Form, slot: u16) -> Found
-    ensures { Completed parts form slot result }
-{
-    Found {
-        traits: traits_of(form, parts.children),
-        good: children_fit(form, parts.children) & parts.good,
-        lo: parts.lo,
-        hi: parts.hi,
-        end: parts.end,
-        below: parts.size,
-        under: parts.depth,
-        slot,
+    /// The record of this form over all its parts, kept at `slot`.
+    pub fn complete(self, form: Form, slot: u16) -> Found
+        ensures { Completed self form slot result }
+    {
+        Found {
+            traits: traits_of(form, self.children),
+            good: children_fit(form, self.children) & self.good,
+            lo: self.lo,
+            hi: self.hi,
+            end: self.end,
+            below: self.size,
+            under: self.depth,
+            slot,
+        }
     }
 }

@@ -7,4 +7,4 @@ pub mod read;
 pub mod tree;
 
 pub use read::{build, load, recognize};
-pub use reader::tree::Unread;
+pub use reader::Unread;

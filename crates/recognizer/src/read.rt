@@ -8,8 +8,8 @@ ghost use Rattle.recognizer.specs.Width.{Recognized};
 ghost use Rattle.recognizer.specs.Passes.{Built, Ready, LoadedAt};
 
 use crate::tree::script;
+use reader::Unread;
 use reader::sink::keep_nothing;
-use reader::tree::Unread;
 use records::{Mark, Store, stamp};
 use token::Token;
 

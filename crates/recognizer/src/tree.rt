@@ -6,19 +6,19 @@ ghost use Rattle.reader.specs.Table.{do_of, goal_of, mode_of, turn_of};
 ghost use Rattle.reader.specs.Reads.{NotParsed};
 ghost use Rattle.recognizer.specs.Reads.{standing_of, Parsed, Made, NotMade, Onward, Eaten};
 ghost use Rattle.reader.specs.Width.{NotScript, refused_of};
-ghost use Rattle.recognizer.specs.Width.{Scripted};
+ghost use Rattle.recognizer.specs.Width.{Whole, Scripted};
 
-use crate::found::{Found, Parts, complete, join, start_at, start_with};
+use crate::found::{Found, Parts};
 use kinds::Slot;
 use kinds::level::fits;
 use reader::begin::begin;
 use reader::glance::token_at;
-use reader::goal::Goal;
+use reader::goal::{Goal, allowed};
 use reader::rest::{Body, Rest};
 use reader::sink::Sink;
 use reader::step::{Step, next_step};
-use reader::tree::{Unread, allowed, refused};
 use reader::turn::{Turn, behind, first_slot, grown, stands, turn_at};
+use reader::unread::{Unread, refused};
 use token::{Code, Token};
 
 /// Whether the expression goes on with the token behind it, when it is read for the slot.
@@ -63,14 +63,9 @@ fn eaten(tokens: &[Token], parts: Parts, code: Code) -> Option<Parts>
         return None;
     }
     Some(Parts {
-        children: parts.children,
-        good: parts.good,
-        lo: parts.lo,
         hi: token.hi,
         end: parts.end + 1,
-        size: parts.size,
-        depth: parts.depth,
-        row: parts.row,
+        ..parts
     })
 }
 
@@ -97,7 +92,7 @@ fn record<S: Sink>(
             Step::Fail => return Err(Unread::NoDerivation),
             Step::Finish(form) => {
                 let slot = sink.nest(form, parts.row, parts.lo, parts.hi);
-                return Ok(complete(parts, form, slot));
+                return Ok(parts.complete(form, slot));
             }
             Step::Eat(code, then) => {
                 let Some(next) = eaten(tokens, parts, code) else {
@@ -116,7 +111,7 @@ fn record<S: Sink>(
                     sink,
                 )?;
                 let row = sink.push(parts.row, child.slot);
-                parts = join(parts, child, row);
+                parts = parts.join(child, row);
                 rest = then;
             }
         }
@@ -143,14 +138,32 @@ fn tree<S: Sink>(
     let mut found = record(
         tokens,
         begin(tokens, at, goal),
-        start_at(tokens, at, none),
+        Parts::start(tokens, at, none),
         allow_in,
         room - 1,
         sink,
     )?;
     while goes_on(tokens, found, goal, allow_in) {
         let rest = behind(turn_at(tokens, found.end), found.traits.is_chain());
-        found = record(tokens, rest, start_with(found), allow_in, room - 1, sink)?;
+        found = record(tokens, rest, found.alone(), allow_in, room - 1, sink)?;
+    }
+    Ok(found)
+}
+
+/// The script that the tokens are, as far as their order decides: whether each child may stand where it stands, and how deep
+/// they nest, is not looked at. It goes into the sink.
+fn whole<S: Sink>(tokens: &[Token], sink: &mut S) -> Result<Found, Unread>
+    ensures { MatchResult result (λ f. Whole tokens.now S.rows sink.old sink.new f) (λ e. NotScript tokens.now e) }
+{
+    let start = Parts::start(tokens, 0, sink.none());
+    let statements = Rest::Statements(Body::Script);
+    let found = record(tokens, statements, start, true, 511, sink).map_err(
+        |why| -> Unread
+            ensures { result ≡ refused_of (length tokens.entry.now) why }
+        { refused(tokens.len(), why) },
+    )?;
+    if found.end < tokens.len() {
+        return Err(Unread::NoDerivation);
     }
     Ok(found)
 }
@@ -160,21 +173,7 @@ fn tree<S: Sink>(
 pub fn script<S: Sink>(tokens: &[Token], sink: &mut S) -> Result<Found, Unread>
     ensures { MatchResult result (λ f. Scripted tokens.now S.rows sink.old sink.new f) (λ e. NotScript tokens.now e) }
 {
-    let start = start_at(tokens, 0, sink.none());
-    let found = match record(
-        tokens,
-        Rest::Statements(Body::Script),
-        start,
-        true,
-        511,
-        sink,
-    ) {
-        Ok(found) => found,
-        Err(why) => return Err(refused(tokens.len(), why)),
-    };
-    if found.end < tokens.len() {
-        return Err(Unread::NoDerivation);
-    }
+    let found = whole(tokens, sink)?;
     if !found.good {
         return Err(Unread::NoDerivation);
     }

@@ -1,6 +1,6 @@
 use Rattle.std.proofs.Common.{◌<◌, sym, refl, arith}
 use Rattle.reader.specs.Table.{turn_of}
-use Rattle.reader.proofs.Exits.{broke}
+use Rattle.recognizer.proofs.Exits.{broke}
 use Rattle.reader.proofs.Eats.{prefix_eats}
 use Rattle.recognizer.proofs.Records.{carried_none, carried_eat, carried_read, made, not_fail, not_eaten, not_read}
 use Rattle.recognizer.proofs.Trees.{no_room, reached_first, refused_first, climbed_none, climbed_next, joined, refused_next, longer, stopped}
@@ -34,19 +34,19 @@ pub tree-returns-then-room-eq0 : goal.tree-returns-then-room-eq0
 tree-returns-then-room-eq0 g t c = rw c.if-room-eq0.true (no_room _ _ _ _)
 
 pub tree-returns-in_err-found : goal.tree-returns-in_err-found
-tree-returns-in_err-found g t c = let lt : 0 < c.args.room = omega (arith, c.if-room-eq0.false) in broke _ _ _ _ c.from_residual.ensures.1 (refused_first _ _ _ _ _ _ _ c.start_at.ensures c.begin.ensures _ _ _ lt refl c.in_err-found.ensures)
+tree-returns-in_err-found g t c = let lt : 0 < c.args.room = omega (arith, c.if-room-eq0.false) in broke _ _ _ _ c.from_residual.ensures.1 (refused_first _ _ _ _ _ _ _ c.start.ensures c.begin.ensures _ _ _ lt refl c.in_err-found.ensures)
 
 pub tree-loop-goal-init : goal.tree-loop-goal-init
-tree-loop-goal-init g t c = climbed_none _ _ _ _ g.S.Sink.rows _ _ _ (reached_first _ _ _ _ _ _ _ c.start_at.ensures c.begin.ensures g.S.Sink.rows _ _ _ (prefix_eats c.args.goal _) c.none-none.ensures c.in_ok-found.ensures)
+tree-loop-goal-init g t c = climbed_none _ _ _ _ g.S.Sink.rows _ _ _ (reached_first _ _ _ _ _ _ _ c.start.ensures c.begin.ensures g.S.Sink.rows _ _ _ (prefix_eats c.args.goal _) c.none-none.ensures c.in_ok-found.ensures)
 
 pub tree-returns-in_err-found-2 : goal.tree-returns-in_err-found-2
-tree-returns-in_err-found-2 g t c = let lt : 0 < c.args.room = omega (arith, c.if-room-eq0.false) in broke _ _ _ _ c.from_residual-in_err-found-2.ensures.1 (refused_next _ _ _ _ g.S.Sink.rows _ _ _ (joined _ _ _ _ g.S.Sink.rows _ _ _ _ _ (reached_first _ _ _ _ _ _ _ c.start_at.ensures c.begin.ensures g.S.Sink.rows _ _ _ (prefix_eats c.args.goal _) c.none-none.ensures c.in_ok-found.ensures) c.loop-goal.invariant) _ _ c.start_with.ensures (turn_of c.turn_at.result) c.is_chain.result c.behind-rest.ensures c.turn_at.ensures c.is_chain.ensures c.loop-goal-test.ensures _ _ _ lt refl c.in_err-found-2.ensures)
+tree-returns-in_err-found-2 g t c = let lt : 0 < c.args.room = omega (arith, c.if-room-eq0.false) in broke _ _ _ _ c.from_residual-in_err-found-2.ensures.1 (refused_next _ _ _ _ g.S.Sink.rows _ _ _ (joined _ _ _ _ g.S.Sink.rows _ _ _ _ _ (reached_first _ _ _ _ _ _ _ c.start.ensures c.begin.ensures g.S.Sink.rows _ _ _ (prefix_eats c.args.goal _) c.none-none.ensures c.in_ok-found.ensures) c.loop-goal.invariant) _ _ c.alone.ensures (turn_of c.turn_at.result) c.is_chain.result c.behind-rest.ensures c.turn_at.ensures c.is_chain.ensures c.loop-goal-test.ensures _ _ _ lt refl c.in_err-found-2.ensures)
 
 pub tree-loop-goal-smaller : goal.tree-loop-goal-smaller
-tree-loop-goal-smaller g t c = let x = c.in_ok-found-2.ensures in omega (arith, x.within, longer _ _ _ _ g.S.Sink.rows _ _ _ (joined _ _ _ _ g.S.Sink.rows _ _ _ _ _ (reached_first _ _ _ _ _ _ _ c.start_at.ensures c.begin.ensures g.S.Sink.rows _ _ _ (prefix_eats c.args.goal _) c.none-none.ensures c.in_ok-found.ensures) c.loop-goal.invariant) _ _ c.start_with.ensures (turn_of c.turn_at.result) c.is_chain.result c.behind-rest.ensures c.turn_at.ensures c.is_chain.ensures c.loop-goal-test.ensures _ _ x)
+tree-loop-goal-smaller g t c = let x = c.in_ok-found-2.ensures in omega (arith, x.within, longer _ _ _ _ g.S.Sink.rows _ _ _ (joined _ _ _ _ g.S.Sink.rows _ _ _ _ _ (reached_first _ _ _ _ _ _ _ c.start.ensures c.begin.ensures g.S.Sink.rows _ _ _ (prefix_eats c.args.goal _) c.none-none.ensures c.in_ok-found.ensures) c.loop-goal.invariant) _ _ c.alone.ensures (turn_of c.turn_at.result) c.is_chain.result c.behind-rest.ensures c.turn_at.ensures c.is_chain.ensures c.loop-goal-test.ensures _ _ x)
 
 pub tree-loop-goal-preserved : goal.tree-loop-goal-preserved
-tree-loop-goal-preserved g t c = climbed_next _ _ _ _ g.S.Sink.rows _ _ _ (joined _ _ _ _ g.S.Sink.rows _ _ _ _ _ (reached_first _ _ _ _ _ _ _ c.start_at.ensures c.begin.ensures g.S.Sink.rows _ _ _ (prefix_eats c.args.goal _) c.none-none.ensures c.in_ok-found.ensures) c.loop-goal.invariant) _ _ c.start_with.ensures (turn_of c.turn_at.result) c.is_chain.result c.behind-rest.ensures c.turn_at.ensures c.is_chain.ensures c.loop-goal-test.ensures _ _ _ _ c.loop-goal.invariant c.in_ok-found-2.ensures
+tree-loop-goal-preserved g t c = climbed_next _ _ _ _ g.S.Sink.rows _ _ _ (joined _ _ _ _ g.S.Sink.rows _ _ _ _ _ (reached_first _ _ _ _ _ _ _ c.start.ensures c.begin.ensures g.S.Sink.rows _ _ _ (prefix_eats c.args.goal _) c.none-none.ensures c.in_ok-found.ensures) c.loop-goal.invariant) _ _ c.alone.ensures (turn_of c.turn_at.result) c.is_chain.result c.behind-rest.ensures c.turn_at.ensures c.is_chain.ensures c.loop-goal-test.ensures _ _ _ _ c.loop-goal.invariant c.in_ok-found-2.ensures
 
 pub tree-returns : goal.tree-returns
-tree-returns g t c = stopped _ _ _ _ g.S.Sink.rows _ _ _ (joined _ _ _ _ g.S.Sink.rows _ _ _ _ _ (reached_first _ _ _ _ _ _ _ c.start_at.ensures c.begin.ensures g.S.Sink.rows _ _ _ (prefix_eats c.args.goal _) c.none-none.ensures c.in_ok-found.ensures) c.loop-goal.invariant) c.loop-goal-test.ensures
+tree-returns g t c = stopped _ _ _ _ g.S.Sink.rows _ _ _ (joined _ _ _ _ g.S.Sink.rows _ _ _ _ _ (reached_first _ _ _ _ _ _ _ c.start.ensures c.begin.ensures g.S.Sink.rows _ _ _ (prefix_eats c.args.goal _) c.none-none.ensures c.in_ok-found.ensures) c.loop-goal.invariant) c.loop-goal-test.ensures
