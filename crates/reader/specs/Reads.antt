@@ -4,7 +4,7 @@
 --   Runs b s h ks y       from some bound on, it completes the record of which s is left to do, with y
 --   own s                 how many tokens of its own each run of s eats, at the least: 1 or 0
 --   Bad e room d          what a refusal says of a tree of the depth d, where room is allowed
---   NotParsed             what it says of all that the grammar's reader may find
+--   NotParsed ks b q room e     what it says of all that the grammar's reader may find at ks
 --   graft us o            what o answers, with the children us before its own
 --
 -- Assumes nothing.
@@ -13,7 +13,6 @@ use Rattle.std.proofs.Math.Option.{Option, none, some}
 use Rattle.token.specs.declared.Token.{Token}
 use Rattle.grammar.specs.Tree.{Tree, Forest, ◌⊕◌, depth}
 use Rattle.grammar.specs.Parser.{Goal, Do, fail, fin, eat, sub, peek, more, items, stms, operand, names, behind, Ran, ran, parse, perform}
-use Rattle.reader.specs.Table.{view}
 use Rattle.reader.specs.declared.unread.Unread.{Unread}
 use Rattle.reader.specs.declared.unread.Unread.TheVariants.{NoDerivation, TooDeep}
 
@@ -44,8 +43,8 @@ abbrev pub Bad : Unread → ℕ → ℕ → Type 0
 Bad NoDerivation room d = ⊥
 Bad TooDeep room d = room < d
 
-abbrev pub NotParsed : List Token → ℕ → Bool → Goal → ℕ → Unread → Type 0
-NotParsed ts i b q room e = (n : ℕ) (t : Tree) (r : List Token) → parse n b q (view ts i) ≡ some (t, r) → Bad e room (depth t)
+abbrev pub NotParsed : List Token → Bool → Goal → ℕ → Unread → Type 0
+NotParsed ks b q room e = (n : ℕ) (t : Tree) (r : List Token) → parse n b q ks ≡ some (t, r) → Bad e room (depth t)
 
 abbrev pub graft : Forest → Option Ran → Option Ran
 graft us none = none

@@ -1,12 +1,12 @@
 -- What the code's tables stand for in the reader of the grammar.
 --
---   view ts i     the tokens of ts from the one at i on
+--   Peeked ks c   c is the code of the first token of ks, if there is one
 --   goal_of mode_of do_of     the goal, the mode, and what is left to do, that a value of the code stands for
 --   to_do         the next thing to do
 --   turn_of       what a token does behind an expression
 --
 -- Assumes nothing.
-use Rattle.std.specs.Prelude.{◌≡◌, ℕ, ◌+◌, ◌<◌, Bool, true, false, T, List, [], ◌∷◌, length, drop, Some, None, Option}
+use Rattle.std.specs.Prelude.{◌≡◌, Bool, true, false, T, List, [], ◌∷◌, Some, None, Option}
 use Rattle.token.specs.declared.Token.{Token}
 use Rattle.token.specs.declared.Code.{Code}
 use Rattle.kinds.specs.declared.form.Form.{Form}
@@ -40,18 +40,10 @@ use Rattle.reader.specs.declared.turn.Turn.TheVariants as turn
 use Rattle.reader.specs.declared.step.Step.{Step}
 use Rattle.reader.specs.declared.step.Step.TheVariants as step
 
--- The tokens from i on.
-unfoldable pub view : List Token → ℕ → List Token
-view ts i = drop i ts
-
--- The token at i, if there is one; its code.
-abbrev pub Stands : List Token → ℕ → Option Token → Type 0
-Stands ts i None = view ts i ≡ []
-Stands ts i (Some k) = (i < length ts) × (view ts i ≡ k ∷ view ts (i + 1))
-
-abbrev pub Peeked : List Token → ℕ → Option Code → Type 0
-Peeked ts i None = view ts i ≡ []
-Peeked ts i (Some c) = (i < length ts) × ((k : Token) × (k.code ≡ c) × (view ts i ≡ k ∷ view ts (i + 1)))
+-- The code of the first token, if there is one.
+abbrev pub Peeked : List Token → Option Code → Type 0
+Peeked ks None = ks ≡ []
+Peeked ks (Some c) = (k : Token) × (r : List Token) × (k.code ≡ c) × (ks ≡ k ∷ r)
 
 abbrev pub goal_of : Goal → parser.Goal
 goal_of (Expression p) = parser.ex p

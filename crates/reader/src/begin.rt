@@ -1,10 +1,10 @@
 // What is to be read where a child begins, from the goal and the token there.
 
-ghost use Rattle.std.specs.Prelude.{◌≡◌, ◌≤◌, length};
+ghost use Rattle.std.specs.Prelude.{◌≡◌};
 ghost use Rattle.grammar.specs.Parser.{prefix, expr_do, stm_do, word_do, punctuator_do, operator_do, opening, stm_word, stm_punctuator, stm_opening, name_do, unary_do, update_do};
 ghost use Rattle.grammar.specs.Layout.{code_begin};
 ghost use Rattle.grammar.specs.Site.{is_other};
-ghost use Rattle.reader.specs.Table.{view, do_of, goal_of};
+ghost use Rattle.reader.specs.Table.{do_of, goal_of};
 ghost use Rattle.grammar.specs.Parser.{eat, fin};
 ghost use Rattle.token.specs.declared.Code.TheVariants as code;
 ghost use Rattle.kinds.specs.declared.form.Form.TheVariants as form;
@@ -55,14 +55,13 @@ fn word_begins(word: Word) -> Rest
     }
 }
 
-/// An expression that begins with a punctuator; `arrow`: it opens the parameters of an arrow function.
-fn punctuator_begins(tokens: &[Token], at: usize, punctuator: Punctuator) -> Rest
-    requires { at ≤ length tokens.now }
-    ensures { do_of result ≡ punctuator_do punctuator (view tokens.now at) }
+/// An expression that begins with a punctuator, with the tokens behind it ahead.
+fn punctuator_begins(ahead: &[Token], punctuator: Punctuator) -> Rest
+    ensures { do_of result ≡ punctuator_do punctuator ahead.now }
 {
     match punctuator {
         Punctuator::OpenParen => {
-            if arrow_behind(tokens, at) {
+            if arrow_behind(ahead) {
                 Rest::Open(List::ArrowParameters)
             } else {
                 Rest::Enclosed(
@@ -106,29 +105,27 @@ fn operator_begins(operator: Operator) -> Rest
     }
 }
 
-/// An expression that begins with a token of this code, the one before `at`.
-fn code_begins(tokens: &[Token], at: usize, code: Code) -> Rest
-    requires { at ≤ length tokens.now }
-    ensures { do_of result ≡ opening code (view tokens.now at) }
+/// An expression that begins with a token of this code, with the tokens behind it ahead.
+fn code_begins(ahead: &[Token], code: Code) -> Rest
+    ensures { do_of result ≡ opening code ahead.now }
 {
     match code {
         Code::Name => Rest::Token(Code::Name, Form::Name(Binding::Plain)),
         Code::Number => Rest::Token(Code::Number, Form::Num),
         Code::String => Rest::Token(Code::String, Form::Str),
         Code::Word(word) => word_begins(word),
-        Code::Punctuator(punctuator) => punctuator_begins(tokens, at, punctuator),
+        Code::Punctuator(punctuator) => punctuator_begins(ahead, punctuator),
         Code::Operator(operator) => operator_begins(operator),
         Code::AssignOperator(_) => Rest::Fail,
     }
 }
 
-/// The expression at `at`.
-fn expression(tokens: &[Token], at: usize) -> Rest
-    requires { at ≤ length tokens.now }
-    ensures { do_of result ≡ expr_do (view tokens.now at) }
+/// The expression that is ahead.
+fn expression(ahead: &[Token]) -> Rest
+    ensures { do_of result ≡ expr_do ahead.now }
 {
-    match peek(tokens, at) {
-        Some(code) => code_begins(tokens, at + 1, code),
+    match ahead.split_first() {
+        Some((token, behind)) => code_begins(behind, token.code),
         None => Rest::Fail,
     }
 }
@@ -176,12 +173,11 @@ fn statement_code(code: Code) -> Rest
     }
 }
 
-/// The statement at `at`.
-fn statement(tokens: &[Token], at: usize) -> Rest
-    requires { at ≤ length tokens.now }
-    ensures { do_of result ≡ stm_do (view tokens.now at) }
+/// The statement that is ahead.
+fn statement(ahead: &[Token]) -> Rest
+    ensures { do_of result ≡ stm_do ahead.now }
 {
-    match peek(tokens, at) {
+    match peek(ahead) {
         Some(code) => {
             if opens(code) && begins_otherwise(code) {
                 Rest::Plain
@@ -193,34 +189,28 @@ fn statement(tokens: &[Token], at: usize) -> Rest
     }
 }
 
-/// Whether a Name at `at` has a value next to it.
-fn binding(tokens: &[Token], at: usize) -> Binding
-    requires { at ≤ length tokens.now }
-    ensures { eat code.Name (fin (form.Name result)) ≡ name_do (view tokens.now at) }
+/// Whether the Name that is ahead has a value next to it.
+fn binding(ahead: &[Token]) -> Binding
+    ensures { eat code.Name (fin (form.Name result)) ≡ name_do ahead.now }
 {
-    match peek(tokens, at) {
-        Some(_) => {
-            if sees(tokens, at + 1, Code::AssignOperator(AssignOperator::Assign)) {
-                Binding::Valued
-            } else {
-                Binding::Plain
-            }
+    match ahead.split_first() {
+        Some((_, behind)) if sees(behind, Code::AssignOperator(AssignOperator::Assign)) => {
+            Binding::Valued
         }
-        None => Binding::Plain,
+        _ => Binding::Plain,
     }
 }
 
-/// What is to be read for the goal, at `at`.
-pub fn begin(tokens: &[Token], at: usize, goal: Goal) -> Rest
-    requires { at ≤ length tokens.now }
-    ensures { do_of result ≡ prefix (goal_of goal) (view tokens.now at) }
+/// What is to be read for the goal, by the tokens ahead.
+pub fn begin(ahead: &[Token], goal: Goal) -> Rest
+    ensures { do_of result ≡ prefix (goal_of goal) ahead.now }
 {
     match goal {
-        Goal::Expression(_) => expression(tokens, at),
-        Goal::Statement => statement(tokens, at),
+        Goal::Expression(_) => expression(ahead),
+        Goal::Statement => statement(ahead),
         Goal::Block => Rest::Block,
         Goal::Declaration => Rest::Var(Declared::Head),
         Goal::Property => Rest::Property,
-        Goal::Name => Rest::Token(Code::Name, Form::Name(binding(tokens, at))),
+        Goal::Name => Rest::Token(Code::Name, Form::Name(binding(ahead))),
     }
 }

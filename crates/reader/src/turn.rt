@@ -1,10 +1,10 @@
 // What a token does behind an expression.
 
-ghost use Rattle.std.specs.Prelude.{◌≡◌, ◌≤◌, length, if◌then◌else◌};
+ghost use Rattle.std.specs.Prelude.{◌≡◌, if◌then◌else◌};
 ghost use Rattle.grammar.specs.Parser.{after, next, word_after, punctuator_after, operator_after, frame, binary_frame, first_slot, is_frame};
 ghost use Rattle.kinds.specs.Levels.{right_slot};
 ghost use Rattle.grammar.specs.Codes.{binary_code, update_code};
-ghost use Rattle.reader.specs.Table.{view, turn_of, do_of, Turns, Grows};
+ghost use Rattle.reader.specs.Table.{turn_of, do_of, Turns, Grows};
 
 use crate::glance::peek;
 use crate::goal::{Goal, Mode};
@@ -110,12 +110,11 @@ pub fn turn_of(code: Code) -> Turn
     }
 }
 
-/// What the token at `at` does behind an expression; the end of the tokens ends it.
-pub fn turn_at(tokens: &[Token], at: usize) -> Turn
-    requires { at ≤ length tokens.now }
-    ensures { turn_of result ≡ next (view tokens.now at) }
+/// What the next token does behind an expression; the end of the tokens ends it.
+pub fn turn_at(ahead: &[Token]) -> Turn
+    ensures { turn_of result ≡ next ahead.now }
 {
-    match peek(tokens, at) {
+    match peek(ahead) {
         Some(code) => turn_of(code),
         None => Turn::Ends,
     }

@@ -1,66 +1,63 @@
 // What is known of a record that was read, and of one whose children are still being read.
 
-ghost use Rattle.std.specs.Prelude.{◌≡◌, ◌+◌, ◌<◌, ◌≤◌, length};
+ghost use Rattle.std.specs.Prelude.{◌≡◌, ◌+◌, ◌^◌, ◌<◌, ◌≤◌};
 ghost use Rattle.grammar.specs.Derives.{lo_of};
-ghost use Rattle.reader.specs.Table.{view};
-ghost use Rattle.recognizer.specs.Reads.{Started, Alone, Joined, Completed};
+ghost use Rattle.recognizer.specs.Reads.{Started, Alone, Eaten, Joined, Completed};
 
 use fitting::{Summary, Traits, children_fit, traits_of};
 use kinds::Form;
 use reader::sink::Row;
-use token::Token;
+use token::{Code, Token};
 
 /// A tree that was read: what the place where it stands can ask of it, whether in each of its records the children fit, its
-/// root's place, where the tokens behind it begin, the number of the records below its root, how deep these nest, and
+/// root's place, the tokens behind it, the number of the records below its root, how deep these nest, and
 /// where the sink keeps it.
 #[derive(Clone, Copy)]
-pub struct Found {
+pub struct Found<'a> {
     pub traits: Traits,
     pub good: bool,
     pub lo: u32,
     pub hi: u32,
-    pub end: usize,
+    pub ahead: &'a [Token],
     pub below: usize,
     pub under: usize,
     pub slot: u16,
 }
 
 /// A record's children as far as they are read: what is kept of them, whether the children fit in each record below, where
-/// the record begins and where the last token read ends, where the tokens behind it begin, the number and nesting of
-/// the children's records, and the row that they stand in.
+/// the record begins and where the last token read ends, the tokens behind it, the number and nesting of the children's records, and the row that they stand in.
 #[derive(Clone, Copy)]
-pub struct Parts {
+pub struct Parts<'a> {
     pub children: Summary,
     pub good: bool,
     pub lo: u32,
     pub hi: u32,
-    pub end: usize,
+    pub ahead: &'a [Token],
     pub size: usize,
     pub depth: usize,
     pub row: Row,
 }
 
-/// Where the token at `at` begins, if there is one.
-fn lo_at(tokens: &[Token], at: usize) -> u32
-    requires { at ≤ length tokens.now }
-    ensures { result ≡ lo_of (view tokens.now at) }
+/// Where the next token begins, if there is one.
+fn lo_of(ahead: &[Token]) -> u32
+    ensures { result ≡ lo_of ahead.now }
 {
-    if at < tokens.len() { tokens[at].lo } else { 0 }
+    ahead.first().map_or(0, |token| token.lo)
 }
 
-impl Found {
+impl<'a> Found<'a> {
     /// The parts of a record whose first child this is.
-    pub fn alone(self) -> Parts
-        requires few { self.below < self.end }
+    pub fn alone(self) -> Parts<'a>
+        requires few { self.below < 2 ^ 63 }
         requires nests { self.under ≤ self.below }
-        ensures { Alone self result }
+        ensures { Alone self.entry result }
     {
         Parts {
             children: Summary::empty().with(self.traits),
             good: self.good,
             lo: self.lo,
             hi: self.hi,
-            end: self.end,
+            ahead: self.ahead,
             size: self.below + 1,
             depth: self.under + 1,
             row: Row {
@@ -71,36 +68,50 @@ impl Found {
     }
 }
 
-impl Parts {
-    /// A record that begins at `at`, over a row of no trees.
-    pub fn start(tokens: &[Token], at: usize, row: Row) -> Parts
-        requires { at ≤ length tokens.now }
-        ensures { Started tokens.now at row result }
+impl<'a> Parts<'a> {
+    /// A record that begins with the next token, over a row of no trees.
+    pub fn start(ahead: &'a [Token], row: Row) -> Parts<'a>
+        ensures { Started ahead.now row result }
     {
         Parts {
             children: Summary::empty(),
             good: true,
-            lo: lo_at(tokens, at),
+            lo: lo_of(ahead),
             hi: 0,
-            end: at,
+            ahead,
             size: 0,
             depth: 0,
             row,
         }
     }
 
+    /// The parts behind the token `code`, if it is the next.
+    pub fn eat(self, code: Code) -> Option<Parts<'a>>
+        ensures { Eaten self.entry code result }
+    {
+        let (token, ahead) = self.ahead.split_first()?;
+        if !token.code.same(code) {
+            return None;
+        }
+        Some(Parts {
+            hi: token.hi,
+            ahead,
+            ..self
+        })
+    }
+
     /// The parts with one more child, which makes the row of them `row`.
-    pub fn join(self, child: Found, row: Row) -> Parts
-        requires few { self.size + child.below < child.end }
+    pub fn join(self, child: Found<'a>, row: Row) -> Parts<'a>
+        requires few { self.size + child.below < 2 ^ 63 }
         requires nests { child.under ≤ child.below }
-        ensures { Joined self child row result }
+        ensures { Joined self.entry child.entry row result }
     {
         Parts {
             children: self.children.with(child.traits),
             good: self.good & child.good,
             lo: self.lo,
             hi: child.hi,
-            end: child.end,
+            ahead: child.ahead,
             size: self.size + child.below + 1,
             depth: self.depth.max(child.under + 1),
             row,
@@ -108,15 +119,15 @@ impl Parts {
     }
 
     /// The record of this form over all its parts, kept at `slot`.
-    pub fn complete(self, form: Form, slot: u16) -> Found
-        ensures { Completed self form slot result }
+    pub fn complete(self, form: Form, slot: u16) -> Found<'a>
+        ensures { Completed self.entry form slot result }
     {
         Found {
             traits: traits_of(form, self.children),
             good: children_fit(form, self.children) & self.good,
             lo: self.lo,
             hi: self.hi,
-            end: self.end,
+            ahead: self.ahead,
             below: self.size,
             under: self.depth,
             slot,
