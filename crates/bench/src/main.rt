@@ -1,7 +1,6 @@
 // How long moves take in each store. What was moved goes to standard output, the times to standard error.
 #![tactic(auto)]
 
-mod fill;
 mod work;
 
 use std::{env, io};

@@ -1,5 +1,4 @@
 // One piece of work: a store is filled, and its comments are moved.
-use crate::fill::Fill;
 use comments::{Move, Place, Side, Store, carry};
 use register::{Entry, Register};
 use spliced::{Head, Note, Spliced};
@@ -43,7 +42,7 @@ fn moves_of(heap: Global, work: Work) -> Result<Vec<Move>, AllocError> {
 }
 
 /// Fills a store, makes the moves, and prints the time of both.
-fn run<S: Store + Fill>(
+fn run<S: Store>(
     rt: &HostRuntime,
     name: &str,
     store: &mut S,
@@ -57,8 +56,8 @@ fn run<S: Store + Fill>(
     carry(store, moves);
     let moved = begin.elapsed(rt)?.as_micros();
     let last = work.moves;
-    let leading = store.count(Side::Leading, last);
-    let trailing = store.count(Side::Trailing, last);
+    let leading = store.count(Side::Leading.at(last));
+    let trailing = store.count(Side::Trailing.at(last));
     let offsets = work.offsets;
     let number = moves.len();
     println!(rt;
@@ -70,7 +69,7 @@ fn run<S: Store + Fill>(
 }
 
 /// Gives every offset its comments, leading and trailing ones in turn, and answers how many the store took.
-fn fill_all<S: Fill>(store: &mut S, work: Work) -> u32 {
+fn fill_all<S: Store>(store: &mut S, work: Work) -> u32 {
     let mut held = 0u32;
     for offset in 0..work.offsets {
         for i in 0..work.each {
@@ -79,7 +78,7 @@ fn fill_all<S: Fill>(store: &mut S, work: Work) -> u32 {
             } else {
                 Side::Trailing
             };
-            if store.put(side, offset, held).is_ok() {
+            if store.add(side.at(offset), held).is_ok() {
                 held = held.saturating_add(1);
             }
         }

@@ -1,6 +1,7 @@
 -- From records to their links: what is read and what is written at a slot.
-use Rattle.std.proofs.Common.{◌≡◌, ℕ, ◌+◌, ◌-◌, ◌<◌, ◌≤◌, List, [], ◌∷◌, map, length, get_or, drop, set, sym, refl, ap, ◌∙◌, subst, add-zero, arith, length-set, below_more}
-use Rattle.std.proofs.lemmas.List.{length-map, get_or-map, map-set, get_or_default, get_or-set_same, get_or-set_other, get_or-drop, drop-set-lt, drop-drop}
+use Rattle.std.proofs.Common.{◌≡◌, ℕ, ◌+◌, ◌-◌, ◌<◌, ◌≤◌, ltb, cond, ◌≢◌, ⊎_elim, List, [], ◌∷◌, map, length, get_or, drop, set, sym, refl, ap, ◌∙◌, subst, arith, length-set}
+use Rattle.std.proofs.lemmas.List.{length-map, get_or-map, map-set, get_or-set_same, get_or-set_other, drop-set-lt, drop-drop}
+use Rattle.std.proofs.lemmas.Bool.{cases_eq, cond-true, cond-false, lt-ltb, le-ltb}
 use Rattle.chain.specs.Chain.{room, Slot, link_at, Chain, times, after, relinked, Beyond}
 use Rattle.chain.proofs.Laws.{chain_push}
 
@@ -47,48 +48,6 @@ pub rest_kept : {X : Type 0} (i : ℕ) (s t : List X) (y : X) → drop i t ≡ d
 rest_kept i s t y e =
     drop-set-lt (i + 1) t i y (omega arith) ∙ sym (drop-drop 1 i t) ∙ ap (drop 1) e ∙ drop-drop 1 i s
 
--- what `make` has done after i records: those before i are linked, those from i on are as they were
-abbrev pub Made : {X : Type 0} → (X → ℕ → X) → List X → ℕ → ℕ → List X → Type 0
-Made {X} g s n i t = ((k : ℕ) (d : X) → k < i → get_or t k d ≡ g (get_or s k d) (after n k)) × (drop i t ≡ drop i s)
-
-module _ {X : Type 0} (g : X → ℕ → X) (s : List X) (n : ℕ) where
-  pub made_none : Made g s n 0 s
-  made_none = ((λ k d l. absurd (omega arith)), refl)
-
-  pub made_more : (i : ℕ) (t : List X) (x y : X) → i < length t → length t ≡ length s → y ≡ g (get_or t i x) (after n i) → Made g s n i t → Made g s n (i + 1) (set t i y)
-  made_more i t x y l same e h = (
-    (λ k d q. linked k q d),
-    rest_kept i s t y h.1,
-  )
-    where
-      here : (d : X) → get_or t i d ≡ get_or s i d
-      here d =
-          ap (λ (j : ℕ). get_or t j d) (sym (add-zero i))
-          ∙ sym (get_or-drop i t 0 d)
-          ∙ ap (λ (u : List X). get_or u 0 d) h.1
-          ∙ get_or-drop i s 0 d
-          ∙ ap (λ (j : ℕ). get_or s j d) (add-zero i)
-
-      linked : (k : ℕ) → k < i + 1 → (d : X) → get_or (set t i y) k d ≡ g (get_or s k d) (after n k)
-      linked =
-          below_more (λ k. (d : X) → get_or (set t i y) k d ≡ g (get_or s k d) (after n k)) i
-          (λ k q d. get_or-set_other t i k y d (λ z. omega arith) ∙ h.0 k d q)
-          (λ d. get_or-set_same t i y d l ∙ e ∙ ap (λ (z : X). g z (after n i)) (get_or_default t i x d l ∙ here d))
-
--- the links of the records that `make` has linked
-pub made_links :
-    {X : Type 0}
-    (f : X → ℕ)
-    (g : X → ℕ → X)
-    → ((x : X) (v : ℕ) → f (g x v) ≡ v)
-    → (s t : List X) (n : ℕ)
-    → n ≤ length t
-    → Made g s n n t
-    → (i : ℕ) → i < n → get_or (map f t) i 0 ≡ after n i
-made_links f g reads s [] n l h i q = absurd (omega arith)
-made_links f g reads s (x ∷ t) n l h i q =
-    get_or-map f (x ∷ t) i x 0 (omega arith) ∙ ap f (h.0 i x q) ∙ reads (get_or s i x) (after n i)
-
 -- writes at slots leave the records that have none
 pub beyond_none : {X : Type 0} (s : List X) → Beyond s s
 beyond_none s = (refl, refl)
@@ -101,3 +60,68 @@ beyond_more {X} s t u a b = (
   b.0 ∙ a.0,
   subst (λ (n : ℕ). drop (room n) u ≡ drop (room n) t) a.0 b.1 ∙ a.1,
 )
+
+-- what `make` has done when the first i of n records are left: the chain of those behind them begins at h
+pub record Made {X : Type 0} (g : X → ℕ → X) (s : List X) (n i h : ℕ) (t : List X) : Type 0 where
+  pub head : h ≡ cond (ltb i n) (i + 1) 0
+  pub linked : (k : ℕ) (d : X) → i ≤ k → k < n → get_or t k d ≡ g (get_or s k d) (after n k)
+  pub left : (k : ℕ) (d : X) → k < i → get_or t k d ≡ get_or s k d
+  pub beyond : Beyond s t
+
+module _ {X : Type 0} (g : X → ℕ → X) (s : List X) (n : ℕ) where
+  pub made_none : Made g s n n 0 s
+  made_none =
+      record {
+        head = sym (cond-false (ltb n n) (n + 1) 0 (le-ltb n n (omega arith)));
+        linked = λ k d l q. absurd (omega arith);
+        left = λ k d q. refl;
+        beyond = beyond_none s;
+      }
+
+  pub made_more :
+      (k h : ℕ) (t u : List X)
+      → n ≡ room (length s)
+      → 1 ≤ k
+      → k ≤ n
+      → ((d : X) → u ≡ relinked g t k h d)
+      → Made g s n k h t
+      → Made g s n (k - 1) k u
+  made_more k h [] u e p q w m = absurd (omega (arith, m.beyond.0))
+  made_more k h (x ∷ t) u e p q w m =
+      record {
+        head = up ∙ sym (cond-true (ltb (k - 1) n) (k - 1 + 1) 0 (lt-ltb (k - 1) n (omega arith)));
+        linked = λ j d l r. ⊎_elim (λ here. at_k j here d) (λ ne. other j d ne ∙ m.linked j d (omega arith) r) (cases_eq j (k - 1));
+        left = λ j d r. other j d (λ z. omega arith) ∙ m.left j d (omega arith);
+        beyond = subst (λ (v : List X). Beyond s v) (sym (w x)) (beyond_more s (x ∷ t) _ m.beyond (beyond_set (x ∷ t) k _ (omega arith, omega (arith, e, ap room m.beyond.0))));
+      }
+    where
+      up : k ≡ k - 1 + 1
+      up = omega arith
+
+      behind : h ≡ after n (k - 1)
+      behind = m.head ∙ ap (λ (j : ℕ). cond (ltb j n) (j + 1) 0) up ∙ ap (λ (j : ℕ). cond (ltb (k - 1 + 1) n) j 0) (omega arith)
+
+      other : (j : ℕ) (d : X) → j ≢ k - 1 → get_or u j d ≡ get_or (x ∷ t) j d
+      other j d ne = ap (λ (v : List X). get_or v j d) (w x) ∙ get_or-set_other (x ∷ t) (k - 1) j _ d ne
+
+      at_k : (j : ℕ) → j ≡ k - 1 → (d : X) → get_or u j d ≡ g (get_or s j d) (after n j)
+      at_k j here d =
+          subst (λ (i : ℕ). get_or u i d ≡ g (get_or s i d) (after n i)) (sym here)
+          (ap (λ (v : List X). get_or v (k - 1) d) (w d)
+          ∙ get_or-set_same (x ∷ t) (k - 1) _ d (omega (arith, e, m.beyond.0))
+          ∙ ap (λ (y : X). g y h) (m.left (k - 1) d (omega arith))
+          ∙ ap (g (get_or s (k - 1) d)) behind)
+
+-- the links of the records that `make` has linked
+pub made_links :
+    {X : Type 0}
+    (f : X → ℕ)
+    (g : X → ℕ → X)
+    → ((x : X) (v : ℕ) → f (g x v) ≡ v)
+    → (s t : List X) (n h : ℕ)
+    → n ≤ length t
+    → Made g s n 0 h t
+    → (i : ℕ) → i < n → get_or (map f t) i 0 ≡ after n i
+made_links f g reads s [] n h l m i q = absurd (omega arith)
+made_links f g reads s (x ∷ t) n h l m i q =
+    get_or-map f (x ∷ t) i x 0 (omega arith) ∙ ap f (m.linked i x (omega arith) q) ∙ reads (get_or s i x) (after n i)

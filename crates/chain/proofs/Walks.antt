@@ -1,5 +1,5 @@
 -- One step along a chain, and the chain of all slots.
-use Rattle.std.proofs.Common.{◌≡◌, ℕ, zero, suc, ◌+◌, ◌-◌, ◌<◌, ◌≤◌, ltb, List, [], ◌∷◌, length, get_or, Some, None, sym, refl, ap, ◌∙◌, subst, arith}
+use Rattle.std.proofs.Common.{◌≡◌, ℕ, zero, suc, ◌+◌, ◌-◌, ◌<◌, ◌≤◌, ltb, cond, List, [], ◌∷◌, length, get_or, Some, None, sym, refl, ap, ◌∙◌, subst, arith}
 use Rattle.std.proofs.lemmas.Bool.{cond-true, cond-false, lt-ltb, le-ltb}
 use Rattle.chain.specs.Chain.{room, Slot, link_at, Chain, Drawn, slots_from, after}
 use Rattle.chain.proofs.Laws.{chain_short}
@@ -67,9 +67,7 @@ run m n (suc c) j p e l h = (
         two : j - 1 + 2 ≡ suc j
         two = omega arith
 
-pub all_slots_none : (m : List ℕ) (n : ℕ) → n ≡ 0 → Chain m 0 (slots_from 1 n)
-all_slots_none m n e = subst (λ (x : ℕ). Chain m 0 (slots_from 1 x)) (sym e) refl
-
-pub all_slots : (m : List ℕ) (n : ℕ) → (n ≡ 0 → ⊥) → n ≤ room (length m) → ((i : ℕ) → i < n → get_or m i 0 ≡ after n i) → Chain m 1 (slots_from 1 n)
-all_slots m zero ne l h = absurd (ne refl)
-all_slots m (suc n) ne l h = run m (suc n) (suc n) 1 (omega arith) (omega arith) l h
+pub all_slots : (m : List ℕ) (n h : ℕ) → h ≡ cond (ltb 0 n) 1 0 → n ≤ room (length m) → ((i : ℕ) → i < n → get_or m i 0 ≡ after n i) → Chain m h (slots_from 1 n)
+all_slots m zero h e l linked = e
+all_slots m (suc n) h e l linked =
+    subst (λ (x : ℕ). Chain m x (slots_from 1 (suc n))) (sym (e ∙ cond-true (ltb 0 (suc n)) 1 0 (lt-ltb 0 (suc n) (omega arith)))) (run m (suc n) (suc n) 1 (omega arith) (omega arith) l linked)

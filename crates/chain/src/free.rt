@@ -1,4 +1,5 @@
 // The chain of unused records: making it, drawing from it, giving back to it, and what a walk along any chain needs.
+// Records and head stay two parameters: methods of a struct that borrows the records would each owe that it still has those.
 ghost use Rattle.std.specs.Prelude.{◌≡◌, ℕ, ◌-◌, ◌<◌, List, ◌∷◌, map, length, MatchOption, slice_index_or};
 ghost use Rattle.chain.specs.Chain.{room, Slot, link_at, Chain, Off, Drawn, slots_from, after, relinked, Beyond};
 ghost use Rattle.chain.specs.Laws.{ChainLaws};
@@ -9,11 +10,7 @@ use crate::bound::Link;
 pub fn last_slot<T>(slots: &[T]) -> u16
     ensures { result ≡ room (length slots.now) }
 {
-    if slots.len() < 65535 {
-        slots.len() as u16
-    } else {
-        65535
-    }
+    u16::try_from(slots.len()).unwrap_or(u16::MAX)
 }
 
 /// Chains all slots in their order, and answers where that chain begins.
@@ -22,22 +19,26 @@ pub fn make<T: Link>(slots: &mut [T]) -> u16
     ensures records { (i : ℕ) (d : T) → i < room (length slots.old) → slice_index_or slots.new i d ≡ T.linked (slice_index_or slots.old i d) (after (room (length slots.old)) i) }
     ensures beyond { Beyond slots.old slots.new }
 {
-    let last = last_slot(slots);
-    for i in 0..last {
-        let next = if i + 1 < last { i + 2 } else { 0 };
-        slots[i as usize].set_next(next);
+    let mut head = 0;
+    for slot in (1..=last_slot(slots)).rev() {
+        link_to(slots, slot, head);
+        head = slot;
     }
-    if last == 0 { 0 } else { 1 }
+    head
+}
+
+/// The record of a slot; none where the number is no slot.
+pub fn record_at<T>(slots: &[T], slot: u16) -> Option<&T>
+    ensures { MatchOption result (Slot (length slots.now) slot → ⊥) (λ found. Slot (length slots.now) slot × ((d : T) → found.now ≡ slice_index_or slots.now (slot - 1) d)) }
+{
+    slots.get(usize::from(slot).checked_sub(1)?)
 }
 
 /// The link of a slot's record; none where the number is no slot.
 pub fn next_of<T: Link>(slots: &[T], slot: u16) -> Option<u16>
     ensures { MatchOption result (Slot (length slots.now) slot → ⊥) (λ next. Slot (length slots.now) slot × (next ≡ link_at (map T.link slots.now) slot)) }
 {
-    if slot == 0 || slot > last_slot(slots) {
-        return None;
-    }
-    Some(slots[slot as usize - 1].next())
+    Some(record_at(slots, slot)?.next())
 }
 
 /// Takes the first slot off the chain that begins at `head`; none comes from an empty chain. The record itself stays as it
@@ -47,10 +48,7 @@ pub fn draw<T: Link>(slots: &[T], head: &mut u16) -> Option<u16>
     ensures chain { (ks : List ℕ) → Chain (map T.link slots.now) head.old ks → Drawn (map T.link slots.now) ks result head.new }
 {
     let first = *head;
-    let Some(rest) = next_of(slots, first) else {
-        return None;
-    };
-    *head = rest;
+    *head = next_of(slots, first)?;
     Some(first)
 }
 
@@ -91,8 +89,6 @@ pub fn count<T: Link>(slots: &[T], head: u16) -> u16
 }
 
 /// A head has one chain, on which no slot stands twice, and which is no longer than there are slots.
-pub fn chain_laws() -> u8
+pub fn chain_laws()
     ensures { ChainLaws }
-{
-    0
-}
+{}

@@ -2,3 +2,4 @@ pub mod Joins
 pub mod Parts
 mod Turn
 mod Kept
+mod Below

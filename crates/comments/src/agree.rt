@@ -6,34 +6,23 @@ ghost use Rattle.comments.specs.Lists.{carried};
 
 use crate::carrying::carry;
 use crate::place::Move;
-use crate::store::{Side, Store};
+use crate::store::{Side, Spot, Store};
 
 /// Whether two stores have the same list on a side at an offset.
-pub fn same_list<A: Store, B: Store>(a: &A, b: &B, side: Side, offset: u32) -> bool
-    ensures { Decides result (A.Store.lists a.now side offset ≡ B.Store.lists b.now side offset) }
+pub fn same_list<A: Store, B: Store>(a: &A, b: &B, spot: Spot) -> bool
+    ensures { Decides result (A.Store.lists a.now spot.side spot.offset ≡ B.Store.lists b.now spot.side spot.offset) }
 {
-    let n = a.count(side, offset);
-    if n != b.count(side, offset) {
-        return false;
-    }
-    for rank in 0..n {
-        if a.comment(side, offset, rank) != b.comment(side, offset, rank) {
-            return false;
-        }
-    }
-    true
+    let n = a.count(spot);
+    n == b.count(spot) && (0..n).all(|rank| a.comment(spot, rank) == b.comment(spot, rank))
 }
 
 /// Whether two stores have the same lists, on both sides, at every offset below `end`.
 pub fn same_lists<A: Store, B: Store>(a: &A, b: &B, end: u32) -> bool
     ensures { Decides result ((side : Side) (k : ℕ) → k < end → A.Store.lists a.now side k ≡ B.Store.lists b.now side k) }
 {
-    for offset in 0..end {
-        if !same_list(a, b, Side::Leading, offset) || !same_list(a, b, Side::Trailing, offset) {
-            return false;
-        }
-    }
-    true
+    (0..end).all(|offset| {
+        same_list(a, b, Side::Leading.at(offset)) && same_list(a, b, Side::Trailing.at(offset))
+    })
 }
 
 /// Makes the same moves in two stores: where they held the same lists, they hold the same lists again.
@@ -48,8 +37,6 @@ pub fn carry_both<A: Store, B: Store>(a: &mut A, b: &mut B, moves: &[Move])
 
 /// Two stores with equal lists and equal room give equal answers to equal calls, and have equal lists and equal room
 /// afterwards, whatever they are made of.
-pub fn same_meaning() -> u8
+pub fn same_meaning()
     ensures { SameMeaning }
-{
-    0
-}
+{}

@@ -5,7 +5,7 @@ ghost use Rattle.comments.specs.Lists.{carried};
 ghost use Rattle.comments.specs.Laws.{Once, Gathered};
 
 use crate::place::Move;
-use crate::store::Store;
+use crate::store::{Side, Store};
 
 /// Makes the moves in their order: of each, the leading list goes from `from.lo` to `to.lo` and the trailing list from
 /// `from.hi` to `to.hi`.
@@ -16,7 +16,7 @@ pub fn carry<S: Store>(store: &mut S, moves: &[Move])
     ensures once { (side : Side) (c : ℕ) → Once c (S.lists store.old side) → Once c (S.lists store.new side) }
 {
     for m in moves {
-        store.move_leading(m.from.lo, m.to.lo);
-        store.move_trailing(m.from.hi, m.to.hi);
+        store.move_list(Side::Leading, m.from.lo, m.to.lo);
+        store.move_list(Side::Trailing, m.from.hi, m.to.hi);
     }
 }

@@ -3,9 +3,9 @@
 
 mod pairs;
 mod promises;
+mod rule;
 mod show;
 mod task;
-mod words;
 
 use std::io;
 

@@ -7,7 +7,7 @@ use token::{Code, Punctuator, Token, Word};
 pub fn moves_of(heap: Global, tokens: &[Token]) -> Result<Vec<Move>, AllocError> {
     let mut moves = Vec::new(heap);
     for (i, token) in tokens.iter().enumerate() {
-        if matches!(token.code, Code::Name) {
+        if token.code == Code::Name {
             pairs_round(tokens, i, &mut moves)?;
         }
     }
@@ -17,14 +17,12 @@ pub fn moves_of(heap: Global, tokens: &[Token]) -> Result<Vec<Move>, AllocError>
 /// Adds a move for each pair directly round the token at an index.
 fn pairs_round(tokens: &[Token], i: usize, moves: &mut Vec<Move>) -> Result<(), AllocError> {
     let to = place_at(tokens, i, i);
-    for k in 1..tokens.len() {
-        if k > i || !is_pair(tokens, i - k, i.saturating_add(k)) {
+    for (first, last) in (0..i).rev().zip(i.saturating_add(1)..tokens.len()) {
+        if !is_pair(tokens, first, last) {
             break;
         }
-        moves.push(Move {
-            from: place_at(tokens, i - k, i.saturating_add(k)),
-            to,
-        })?;
+        let from = place_at(tokens, first, last);
+        moves.push(Move { from, to })?;
     }
     Ok(())
 }
@@ -39,45 +37,39 @@ fn place_at(tokens: &[Token], first: usize, last: usize) -> Place {
 
 /// Whether two tokens are the parentheses of a pair, and not of arguments, parameters or a statement's head.
 fn is_pair(tokens: &[Token], first: usize, last: usize) -> bool {
-    let begins = first == 0 || before_operand(tokens.get(first.saturating_sub(1)).copied());
-    let arrow = is_punctuator(
-        tokens.get(last.saturating_add(1)).copied(),
-        Punctuator::Arrow,
-    );
-    is_punctuator(tokens.get(first).copied(), Punctuator::OpenParen)
-        && is_punctuator(tokens.get(last).copied(), Punctuator::CloseParen)
-        && begins
-        && !arrow
+    let before = first.checked_sub(1);
+    is_sign(tokens.get(first), Punctuator::OpenParen)
+        && is_sign(tokens.get(last), Punctuator::CloseParen)
+        && before.is_none_or(|i| before_operand(tokens.get(i)))
+        && !is_sign(tokens.get(last.saturating_add(1)), Punctuator::Arrow)
 }
 
-fn is_punctuator(token: Option<Token>, punctuator: Punctuator) -> bool {
-    match token {
-        Some(token) => token.code.same(Code::Punctuator(punctuator)),
-        None => false,
-    }
+fn is_sign(token: Option<&Token>, sign: Punctuator) -> bool {
+    token.is_some_and(|token| token.code == Code::Punctuator(sign))
 }
 
 /// Whether an operand begins behind a token, whatever stands before that.
-fn before_operand(token: Option<Token>) -> bool {
-    match token {
-        Some(token) => match token.code {
-            Code::Operator(_) | Code::AssignOperator(_) => true,
-            Code::Punctuator(sign) => opens_operand(sign),
-            Code::Word(word) => matches!(
-                word,
-                Word::Typeof
-                    | Word::Void
-                    | Word::Delete
-                    | Word::In
-                    | Word::Instanceof
-                    | Word::Return
-                    | Word::Await
-                    | Word::Yield
-            ),
-            Code::Name | Code::Number | Code::String => false,
-        },
-        None => false,
-    }
+fn before_operand(token: Option<&Token>) -> bool {
+    token.is_some_and(|token| match token.code {
+        Code::Operator(_) | Code::AssignOperator(_) => true,
+        Code::Punctuator(sign) => opens_operand(sign),
+        Code::Word(word) => comes_before_operand(word),
+        Code::Name | Code::Number | Code::String => false,
+    })
+}
+
+fn comes_before_operand(word: Word) -> bool {
+    matches!(
+        word,
+        Word::Typeof
+            | Word::Void
+            | Word::Delete
+            | Word::In
+            | Word::Instanceof
+            | Word::Return
+            | Word::Await
+            | Word::Yield
+    )
 }
 
 fn opens_operand(sign: Punctuator) -> bool {

@@ -11,10 +11,10 @@ pub fn promises() -> [&'static str; 4]
     ensures good { DerivedGood }
     ensures core { CoreLaw }
 {
-    let _ = grammar::unambiguous();
-    let _ = grammar::reader_is_exact();
-    let _ = grammar::derived_is_good();
-    let _ = grammar::core_form_law();
+    grammar::unambiguous();
+    grammar::reader_is_exact();
+    grammar::derived_is_good();
+    grammar::core_form_law();
     [
         "No list of tokens reads in two ways.",
         "A reader that computes accepts exactly the lists that the grammar derives, and gives the derived tree.",

@@ -1,6 +1,6 @@
 // Printing what was read, what a store answers and what it holds.
-use crate::words::{Comment, Fault};
-use comments::{Move, Place, Side, Store};
+use crate::rule::{Comment, Fault};
+use comments::{Move, Place, Side, Spot, Store};
 use refusal::Refusal;
 use std::io;
 use token::{Code, Token};
@@ -22,12 +22,10 @@ impl<'a> Shown<'a> {
 
     /// What a comment says, by its number.
     fn says(self, number: u32) -> &'a str {
-        for comment in self.comments.iter() {
-            if comment.number == number {
-                return part(self.text, comment.text);
-            }
-        }
-        ""
+        self.comments
+            .iter()
+            .find(|comment| comment.number == number)
+            .map_or("", |comment| part(self.text, comment.text))
     }
 }
 
@@ -62,7 +60,7 @@ fn show_token(rt: &HostRuntime, text: &str, token: Token) -> io::Result<()> {
 }
 
 fn show_comment(rt: &HostRuntime, text: &str, comment: Comment) -> io::Result<()> {
-    let verb = match comment.side {
+    let verb = match comment.spot.side {
         Side::Leading => "leads",
         Side::Trailing => "trails",
     };
@@ -70,7 +68,7 @@ fn show_comment(rt: &HostRuntime, text: &str, comment: Comment) -> io::Result<()
         "   comment {}, {}, {verb} offset {}",
         comment.number,
         part(text, comment.text),
-        comment.offset
+        comment.spot.offset
     )
 }
 
@@ -114,8 +112,7 @@ pub fn show_answer(
 }
 
 pub fn show_move(rt: &HostRuntime, m: &Move) -> io::Result<()> {
-    let from = m.from;
-    let to = m.to;
+    let Move { from, to } = *m;
     println!(rt;
         "   from the pair at {} to {} to what stands at {} to {}",
         from.lo, from.hi, to.lo, to.hi
@@ -130,8 +127,8 @@ pub fn show_lists<S: Store>(
     shown: Shown,
 ) -> io::Result<()> {
     for offset in 0..shown.end() {
-        show_list(rt, name, store, shown, Side::Leading, offset)?;
-        show_list(rt, name, store, shown, Side::Trailing, offset)?;
+        show_list(rt, name, store, shown, Side::Leading.at(offset))?;
+        show_list(rt, name, store, shown, Side::Trailing.at(offset))?;
     }
     Ok(())
 }
@@ -141,20 +138,19 @@ fn show_list<S: Store>(
     name: &str,
     store: &S,
     shown: Shown,
-    side: Side,
-    offset: u32,
+    spot: Spot,
 ) -> io::Result<()> {
-    let count = store.count(side, offset);
+    let count = store.count(spot);
     if count == 0 {
         return Ok(());
     }
-    let verb = match side {
+    let side = match spot.side {
         Side::Leading => "leading",
         Side::Trailing => "trailing",
     };
-    print!(rt; "   {name}, {verb} at offset {offset}:")?;
+    print!(rt; "   {name}, {side} at offset {}:", spot.offset)?;
     for rank in 0..count {
-        if let Some(comment) = store.comment(side, offset, rank) {
+        if let Some(comment) = store.comment(spot, rank) {
             print!(rt; " {comment} {}", shown.says(comment))?;
         }
     }

@@ -1,8 +1,8 @@
 // The task: the needless pairs of a rule go, and their comments are carried to what they enclosed.
 use crate::pairs::moves_of;
+use crate::rule::{Comment, Rule};
 use crate::show::{Shown, show_answer, show_fault, show_lists, show_move, show_rule};
-use crate::words::{Comment, Fault, Rule, read_words};
-use comments::{Move, Place, Side, carry_both, same_lists};
+use comments::{Move, Place, Side, Spot, Store, carry_both, same_lists};
 use register::{Entry, Register};
 use spliced::{Head, Note, Spliced};
 use std::io;
@@ -15,7 +15,7 @@ pub fn play(rt: &HostRuntime) -> io::Result<()> {
         let line = line?;
         let text = line.as_str();
         println!(rt; "   {text}")?;
-        match read_words(heap, text) {
+        match Rule::read(heap, text) {
             Ok(rule) => return carry_comments(rt, text, &rule),
             Err(fault) => show_fault(rt, text, fault)?,
         }
@@ -36,27 +36,22 @@ fn carry_comments<'x>(rt: &HostRuntime, text: &'x str, rule: &'x Rule) -> io::Re
     let mut notes = vec![in heap; Note::UNUSED; room]?;
     let mut heads = vec![in heap; Head::UNUSED; room]?;
     let mut entries = vec![in heap; Entry::UNUSED; room]?;
-    let mut spliced = Spliced::new(notes.as_mut_slice(), heads.as_mut_slice());
-    let mut register = Register::new(entries.as_mut_slice());
-    fill_both(rt, shown, &mut spliced, &mut register)?;
-    show_moves(rt, moves.as_slice())?;
-    carry_both(&mut spliced, &mut register, moves.as_slice());
-    println!(rt; "5. The comments afterwards:")?;
-    compare(rt, shown, &spliced, &register)?;
-    overfill(rt, shown, &mut spliced, &mut register)
-}
-
-fn fill_both(
-    rt: &HostRuntime,
-    shown: Shown,
-    spliced: &mut Spliced,
-    register: &mut Register,
-) -> io::Result<()> {
+    let mut stores = Stores {
+        spliced: Spliced::new(notes.as_mut_slice(), heads.as_mut_slice()),
+        register: Register::new(entries.as_mut_slice()),
+    };
     println!(rt; "3. Two stores with just enough room take its comments:")?;
     for comment in shown.comments.iter() {
-        fill(rt, spliced, register, *comment)?;
+        stores.fill(rt, *comment)?;
     }
-    compare(rt, shown, spliced, register)
+    stores.compare(rt, shown)?;
+    show_moves(rt, moves.as_slice())?;
+    carry_both(&mut stores.spliced, &mut stores.register, moves.as_slice());
+    println!(rt; "5. The comments afterwards:")?;
+    stores.compare(rt, shown)?;
+    println!(rt; "6. Both stores are full. One comment more is refused, and nothing changes:")?;
+    stores.fill(rt, ONE_MORE)?;
+    stores.compare(rt, shown)
 }
 
 fn show_moves(rt: &HostRuntime, moves: &[Move]) -> io::Result<()> {
@@ -69,65 +64,40 @@ fn show_moves(rt: &HostRuntime, moves: &[Move]) -> io::Result<()> {
     Ok(())
 }
 
-/// Tries one comment more than there is room for.
-fn overfill(
-    rt: &HostRuntime,
-    shown: Shown,
-    spliced: &mut Spliced,
-    register: &mut Register,
-) -> io::Result<()> {
-    println!(rt; "6. Both stores are full. One comment more is refused, and nothing changes:")?;
-    let text = Place { lo: 0, hi: 0 };
-    fill(
-        rt,
-        spliced,
-        register,
-        Comment {
-            number: 100,
-            text,
-            side: Side::Trailing,
-            offset: 0,
-        },
-    )?;
-    compare(rt, shown, spliced, register)
+/// A comment for which there is no room any more.
+const ONE_MORE: Comment = Comment {
+    number: 100,
+    text: Place { lo: 0, hi: 0 },
+    spot: Spot {
+        side: Side::Trailing,
+        offset: 0,
+    },
+};
+
+/// The two stores beside each other.
+#[derive(Drop)]
+struct Stores<'a> {
+    spliced: Spliced<'a>,
+    register: Register<'a>,
 }
 
-/// Puts a comment into both stores, and prints what they answer.
-fn fill(
-    rt: &HostRuntime,
-    spliced: &mut Spliced,
-    register: &mut Register,
-    comment: Comment,
-) -> io::Result<()> {
-    let number = comment.number;
-    show_answer(
-        rt,
-        "spliced chains",
-        number,
-        spliced.add(comment.side, comment.offset, number),
-    )?;
-    show_answer(
-        rt,
-        "register",
-        number,
-        register.add(comment.side, comment.offset, number),
-    )
-}
+impl<'a> Stores<'a> {
+    /// Puts a comment into both, and prints what they answer.
+    fn fill(&mut self, rt: &HostRuntime, comment: Comment) -> io::Result<()> {
+        let Comment { number, spot, .. } = comment;
+        show_answer(rt, "spliced chains", number, self.spliced.add(spot, number))?;
+        show_answer(rt, "register", number, self.register.add(spot, number))
+    }
 
-/// Prints the lists of both stores, and whether they agree at every offset of the rule.
-fn compare(
-    rt: &HostRuntime,
-    shown: Shown,
-    spliced: &Spliced,
-    register: &Register,
-) -> io::Result<()> {
-    let end = shown.end();
-    show_lists(rt, "spliced chains", spliced, shown)?;
-    show_lists(rt, "register", register, shown)?;
-    let verdict = if same_lists(spliced, register, end) {
-        "agree"
-    } else {
-        "do not agree"
-    };
-    println!(rt; "   The two stores {verdict} at all offsets of the rule.")
+    /// Prints the lists of both, and whether they agree at every offset of the rule.
+    fn compare(&self, rt: &HostRuntime, shown: Shown) -> io::Result<()> {
+        show_lists(rt, "spliced chains", &self.spliced, shown)?;
+        show_lists(rt, "register", &self.register, shown)?;
+        let verdict = if same_lists(&self.spliced, &self.register, shown.end()) {
+            "agree"
+        } else {
+            "do not agree"
+        };
+        println!(rt; "   The two stores {verdict} at all offsets of the rule.")
+    }
 }

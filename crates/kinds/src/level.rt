@@ -226,8 +226,6 @@ pub fn right_slot(op: BinaryOperator) -> Slot
 }
 
 /// The tables by which levels, classes and targets are answered agree with the standings that the grammar is stated with.
-pub fn tables_agree() -> u8
+pub fn tables_agree()
     ensures { TablesAgree }
-{
-    0
-}
+{}

@@ -2,6 +2,7 @@
 
 #![tactic(auto)]
 
+mod code;
 pub mod form;
 pub mod kind;
 pub mod level;

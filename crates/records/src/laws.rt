@@ -3,15 +3,11 @@ ghost use Rattle.records.specs.Formed.{DerivedSound};
 ghost use Rattle.records.specs.Siblings.{Measured};
 
 /// A tree that the grammar derives, nesting at most 512 deep, is one that a pool can hold as loaded.
-pub fn derived_is_sound() -> u8
+pub fn derived_is_sound()
     ensures { DerivedSound }
-{
-    0
-}
+{}
 
 /// A tree has as many records as it has nodes, and they nest as deep.
-pub fn records_measure_trees() -> u8
+pub fn records_measure_trees()
     ensures { Measured }
-{
-    0
-}
+{}

@@ -7,7 +7,7 @@ use chain::Link;
 use kinds::Form;
 
 /// What a record is the root of. Only the root of an outstanding tree is marked.
-#[derive(Clone, Copy)]
+#[derive(Clone, Copy, PartialEq, Eq, Debug)]
 pub enum Mark {
     Unmarked,
     Loaded,

@@ -1,4 +1,5 @@
-// One record at a time: reading and writing at a slot, drawing from the free chain, giving back to it.
+// One record at a time: reading and writing at a slot, drawing from the free chain, giving back to it. Records and head are two
+// parameters here, and one `Store` above: methods of a struct that borrows the records would each owe that it still has those.
 ghost use Rattle.std.specs.Prelude.{◌≡◌, ℕ, ◌-◌, ◌<◌, ◌≤◌, List, length, MatchOption, slice_set};
 ghost use Rattle.chain.specs.Chain.{room, Slot, Chain, Off, slots_from, Beyond};
 ghost use Rattle.records.specs.Record.{at, links, vacant, stamped};
@@ -26,8 +27,7 @@ pub fn stamp(slots: &mut [Record], slot: u16, mark: Mark)
     requires { Slot (length slots.old) slot }
     ensures { slots.new ≡ stamped slots.old slot mark }
 {
-    let record = look(slots, slot);
-    write(slots, slot, Record { mark, ..record });
+    slots[slot as usize - 1].mark = mark;
 }
 
 /// Draws the first free record and writes it; answers its slot, and none where no record is free. The free chain goes on
@@ -37,9 +37,7 @@ pub fn draw(slots: &mut [Record], free: &mut u16, content: Record) -> Option<u16
         ((Slot (length slots.old) free.old → ⊥) × (free.new ≡ free.old) × (slots.new ≡ slots.old))
         (λ k. (k ≡ free.old) × Slot (length slots.old) k × (free.new ≡ (at slots.old k).next) × (slots.new ≡ slice_set slots.old (k - 1) content)) }
 {
-    let Some(slot) = chain::draw(slots, free) else {
-        return None;
-    };
+    let slot = chain::draw(slots, free)?;
     write(slots, slot, content);
     Some(slot)
 }
@@ -70,9 +68,7 @@ pub fn make(slots: &mut [Record]) -> u16
     ensures records { (k : ℕ) → Slot (length slots.old) k → at slots.new k ≡ vacant (at slots.new k).next }
     ensures beyond { Beyond slots.old slots.new }
 {
-    let last = chain::last_slot(slots);
-    for i in 0..last {
-        slots[i as usize] = Record::FREE;
-    }
+    let last = usize::from(chain::last_slot(slots));
+    slots[..last].fill(Record::FREE);
     chain::make(slots)
 }

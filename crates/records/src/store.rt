@@ -44,10 +44,7 @@ impl<'a> Store<'a> {
     pub fn mark_of(&self, slot: u16) -> Option<Mark>
         ensures { MatchOption result (Slot (length self.now.slots.now) slot → ⊥) (λ m. Slot (length self.now.slots.now) slot × (m ≡ (at self.now.slots.now slot).mark)) }
     {
-        if slot == 0 || slot > chain::last_slot(self.slots) {
-            return None;
-        }
-        Some(slots::look(self.slots, slot).mark)
+        Some(chain::record_at(self.slots, slot)?.mark)
     }
 
     /// Takes the mark off a root, and gives back its tree.

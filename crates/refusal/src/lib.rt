@@ -4,7 +4,7 @@
 ghost use Rattle.std.specs.Prelude.{◌≡◌};
 ghost use Rattle.refusal.specs.Table.{numbered, valued};
 
-#[derive(Clone, Copy, PartialEq, Debug)]
+#[derive(Clone, Copy, PartialEq, Eq, Debug)]
 pub enum Refusal {
     /// A tree, a piece or a slot is not of this pool, mark or kind, a slot is outside the tree given, or it may not be cut.
     InvalidSlot { slot: u16 },

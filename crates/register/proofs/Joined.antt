@@ -16,9 +16,9 @@ use Rattle.register.proofs.Ranks.{here_true, Below, all_below}
 use Rattle.register.proofs.OneEntry.{other_here, other_ranked, apart_here, apart_ranked, gone_here, there_here, there_front, there_behind}
 use Rattle.register.proofs.Relisted.{either, count_either, Kept, kept_sound, kept_list, none_sound, none_list, Both, both_sound, both_list}
 
-below_in : (es : List Entry) (side : Side) (k : ℕ) (e : Entry) → Below es e → e.side ≡ side → e.offset ≡ k → e.rank < count_by (here side k) es
+below_in : (es : List Entry) (side : Side) (k : ℕ) (e : Entry) → Below es e → e.spot.side ≡ side → e.spot.offset ≡ k → e.rank < count_by (here side k) es
 below_in es side k e b s o =
-    subst (λ (x : ℕ). e.rank < count_by (here side x) es) o (subst (λ (x : Side). e.rank < count_by (here x e.offset) es) s b)
+    subst (λ (x : ℕ). e.rank < count_by (here side x) es) o (subst (λ (x : Side). e.rank < count_by (here x e.spot.offset) es) s b)
 
 -- two lists may be put together: they are two, of which one is where the joint list will be, and the first is as long as is said
 pub record Ready (es : List Entry) (side : Side) (first second to ahead : ℕ) : Type 0 where
@@ -33,28 +33,28 @@ there es side first second to ahead y =
       comments = λ e. refl;
       long = y.long;
       apart = y.apart;
-      heres = λ e. there_here first second to (same e.side side) e.offset y.ends;
-      front = λ r l e b. there_front first second to ahead r (same e.side side) e.offset e.rank y.apart y.ends l;
-      behind = λ r e b. there_behind first second to ahead r (same e.side side) e.offset e.rank y.apart y.ends (λ on o. subst (λ (x : ℕ). e.rank < x) (sym y.long) (below_in es side first e b (same_sides e.side side on) o));
+      heres = λ e. there_here first second to (same e.spot.side side) e.spot.offset y.ends;
+      front = λ r l e b. there_front first second to ahead r (same e.spot.side side) e.spot.offset e.rank y.apart y.ends l;
+      behind = λ r e b. there_behind first second to ahead r (same e.spot.side side) e.spot.offset e.rank y.apart y.ends (λ on o. subst (λ (x : ℕ). e.rank < x) (sym y.long) (below_in es side first e b (same_sides e.spot.side side on) o));
     }
 
 elsewhere : (es : List Entry) (side at : Side) (first second to ahead k : ℕ) → same at side ≡ false → Kept es (moved_to side first second to ahead) at at k k
 elsewhere es side at first second to ahead k ne =
     record {
       comments = λ e. refl;
-      heres = λ e. other_here first second to k (same e.side at) (same e.side side) e.offset (off_side e);
-      ranks = λ r e b. other_ranked first second to ahead k r (same e.side at) (same e.side side) e.offset e.rank (off_side e);
+      heres = λ e. other_here first second to k (same e.spot.side at) (same e.spot.side side) e.spot.offset (off_side e);
+      ranks = λ r e b. other_ranked first second to ahead k r (same e.spot.side at) (same e.spot.side side) e.spot.offset e.rank (off_side e);
     }
   where
-    off_side : (e : Entry) → same e.side at ≡ true → same e.side side ≡ false
-    off_side e h = subst (λ (x : Side). same x side ≡ false) (sym (same_sides e.side at h)) ne
+    off_side : (e : Entry) → same e.spot.side at ≡ true → same e.spot.side side ≡ false
+    off_side e h = subst (λ (x : Side). same x side ≡ false) (sym (same_sides e.spot.side at h)) ne
 
 untouched : (es : List Entry) (side : Side) (first second to ahead k : ℕ) → (k ≡ to → ⊥) → (k ≡ first → ⊥) → (k ≡ second → ⊥) → Kept es (moved_to side first second to ahead) side side k k
 untouched es side first second to ahead k t f s =
     record {
       comments = λ e. refl;
-      heres = λ e. apart_here first second to k (same e.side side) e.offset t f s;
-      ranks = λ r e b. apart_ranked first second to ahead k r (same e.side side) e.offset e.rank t f s;
+      heres = λ e. apart_here first second to k (same e.spot.side side) e.spot.offset t f s;
+      ranks = λ r e b. apart_ranked first second to ahead k r (same e.spot.side side) e.spot.offset e.rank t f s;
     }
 
 -- the four kinds of lists: on the other side, the joint one, the one that is left empty, any other
@@ -88,7 +88,7 @@ joined_sound es side first second to ahead y =
     kinds {C = λ at k. (r : ℕ) → count_by (ranked at k r) (map f es) ≡ cond (ltb r (count_by (here at k) (map f es))) 1 0} side first second to
     (λ at k s. kept_sound es f at at k k (elsewhere es side at first second to ahead k s) y.sound)
     (both_sound es f side to first second ahead (there es side first second to ahead y) y.sound)
-    (λ k t g. none_sound es f side k (λ e. gone_here first second to k (same e.side side) e.offset t g))
+    (λ k t g. none_sound es f side k (λ e. gone_here first second to k (same e.spot.side side) e.spot.offset t g))
     (λ k t a b. kept_sound es f side side k k (untouched es side first second to ahead k t a b) y.sound)
 
 pub joined_lists : (es : List Entry) (side : Side) (first second to ahead : ℕ) → Ready es side first second to ahead → (at : Side) (k : ℕ) → listing (map (moved_to side first second to ahead) es) at k ≡ together (listing es) side first second to at k
@@ -99,7 +99,7 @@ joined_lists es side first second to ahead y =
     (both_list es f side to first second ahead (there es side first second to ahead y) y.sound
     ∙ sym (on_side to ∙ cond-true (eqb to to) _ _ (eq-eqb to to refl)))
     (λ k t g.
-    none_list es f side k (λ e. gone_here first second to k (same e.side side) e.offset t g)
+    none_list es f side k (λ e. gone_here first second to k (same e.spot.side side) e.spot.offset t g)
     ∙ sym (on_side k ∙ cond-false (eqb k to) _ _ (ne_eqb k to t) ∙ cond-true (eqb k first || eqb k second) _ _ (grind (arith, nat_tests))))
     (λ k t a b.
     kept_list es f side side k k (untouched es side first second to ahead k t a b) y.sound

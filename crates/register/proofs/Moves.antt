@@ -1,5 +1,5 @@
 -- A move joins two lists.
-use Rattle.std.proofs.Common.{◌≡◌, ℕ, ◌-◌, Bool, true, false, cond, ◌||◌, eqb, List, [], ◌++◌, length, drop, sym, refl, ap, ◌∙◌, ⊎_elim}
+use Rattle.std.proofs.Common.{◌≡◌, ℕ, ◌-◌, Bool, true, false, cond, ◌||◌, eqb, List, [], ◌++◌, length, drop, sym, refl, ap, ◌∙◌, subst, ⊎_elim}
 use Rattle.std.proofs.lemmas.List.{length-drop}
 use Rattle.std.proofs.lemmas.Bool.{cond-true, cond-false, cases_Bool, ne_eqb}
 use Rattle.comments.specs.declared.store.Side.{Side}
@@ -21,14 +21,21 @@ or_false : (a b : Bool) → b ≡ false → a || b ≡ a
 or_false true b e = refl
 or_false false b e = e
 
-pub led : (f : Lists) (from to : ℕ) → (from ≡ to → ⊥) → (at : Side) (k : ℕ) → together f Leading from to to at k ≡ shifted Leading f from to at k
+led : (f : Lists) (from to : ℕ) → (from ≡ to → ⊥) → (at : Side) (k : ℕ) → together f Leading from to to at k ≡ shifted Leading f from to at k
 led f from to ne Leading k = move_cases k from to (f Leading from ++ f Leading to) (f Leading k) (eqb k from || eqb k to) ne (or_false (eqb k from) (eqb k to))
 led f from to ne Trailing k = refl
 
-pub trailed : (f : Lists) (from to : ℕ) → (from ≡ to → ⊥) → (at : Side) (k : ℕ) → together f Trailing to from to at k ≡ shifted Trailing f from to at k
+trailed : (f : Lists) (from to : ℕ) → (from ≡ to → ⊥) → (at : Side) (k : ℕ) → together f Trailing to from to at k ≡ shifted Trailing f from to at k
 trailed f from to ne Leading k = refl
 trailed f from to ne Trailing k =
     move_cases k from to (f Trailing to ++ f Trailing from) (f Trailing k) (eqb k to || eqb k from) ne (λ e. ap (λ (y : Bool). y || eqb k from) e)
+
+-- what puts the list at `from` to the outer side of that at `to` is a shift
+pub shift_leading : (side : Side) (f g : Lists) (from to : ℕ) → (from ≡ to → ⊥) → side ≡ Leading → ((at : Side) (k : ℕ) → g at k ≡ together f side from to to at k) → (at : Side) (k : ℕ) → g at k ≡ shifted side f from to at k
+shift_leading side f g from to ne e h at k = h at k ∙ subst (λ (s : Side). together f s from to to at k ≡ shifted s f from to at k) (sym e) (led f from to ne at k)
+
+pub shift_trailing : (side : Side) (f g : Lists) (from to : ℕ) → (from ≡ to → ⊥) → side ≡ Trailing → ((at : Side) (k : ℕ) → g at k ≡ together f side to from to at k) → (at : Side) (k : ℕ) → g at k ≡ shifted side f from to at k
+shift_trailing side f g from to ne e h at k = h at k ∙ subst (λ (s : Side). together f s to from to at k ≡ shifted s f from to at k) (sym e) (trailed f from to ne at k)
 
 -- where the records that are no entries stay, there is room for as many more
 pub room_kept : {X : Type 0} (xs ys : List X) (a b : ℕ) → drop a xs ≡ drop b ys → length xs - a ≡ length ys - b

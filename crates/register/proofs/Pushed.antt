@@ -23,12 +23,12 @@ next_rank false r rank n h = grind (arith, nat_tests)
 
 -- the entry has the next rank of its list
 abbrev pub Next : List Entry → Entry → Type 0
-Next es e = e.rank ≡ count_by (here e.side e.offset) es
+Next es e = e.rank ≡ count_by (here e.spot.side e.spot.offset) es
 
 next_of : (es : List Entry) (e : Entry) (side : Side) (k : ℕ) → Next es e → here side k e ≡ true → e.rank ≡ count_by (here side k) es
 next_of es e side k n h =
     let p = here_true side k e h in
-    n ∙ ap (λ (s : Side). count_by (here s e.offset) es) p.0 ∙ ap (λ (o : ℕ). count_by (here side o) es) p.1
+    n ∙ ap (λ (s : Side). count_by (here s e.spot.offset) es) p.0 ∙ ap (λ (o : ℕ). count_by (here side o) es) p.1
 
 pub sound_push : (es : List Entry) (e : Entry) → Sound es → Next es e → Sound (es ++ e ∷ [])
 sound_push es e h n side k r =
@@ -89,18 +89,18 @@ listing_other es e side k b =
     (λ i l. comment_same es (e ∷ []) side k (0 + i) (cond-false (ranked side k (0 + i) e) e.comment 0 (and_left _ _ b)))
 
 -- the lists with one more entry
-pub listing_push : (es : List Entry) (e : Entry) → Sound es → Next es e → (at : Side) (k : ℕ) → listing (es ++ e ∷ []) at k ≡ added (listing es) e.side e.offset e.comment at k
+pub listing_push : (es : List Entry) (e : Entry) → Sound es → Next es e → (at : Side) (k : ℕ) → listing (es ++ e ∷ []) at k ≡ added (listing es) e.spot.side e.spot.offset e.comment at k
 listing_push es e h n at k =
     ⊎_elim
-    (λ b. listing_its es e at k h n b ∙ sym (cond-true (same at e.side && eqb k e.offset) _ _ (sym turned ∙ b)))
-    (λ b. listing_other es e at k b ∙ sym (cond-false (same at e.side && eqb k e.offset) _ _ (sym turned ∙ b)))
+    (λ b. listing_its es e at k h n b ∙ sym (cond-true (same at e.spot.side && eqb k e.spot.offset) _ _ (sym turned ∙ b)))
+    (λ b. listing_other es e at k b ∙ sym (cond-false (same at e.spot.side && eqb k e.spot.offset) _ _ (sym turned ∙ b)))
     (cases_Bool (here at k e))
   where
     turned_eqb : (a b : ℕ) → eqb a b ≡ eqb b a
     turned_eqb a b = grind (arith, nat_tests)
 
-    turned : here at k e ≡ same at e.side && eqb k e.offset
-    turned = ap (λ (x : Bool). x && eqb e.offset k) (same_turned e.side at) ∙ ap (λ (x : Bool). same at e.side && x) (turned_eqb e.offset k)
+    turned : here at k e ≡ same at e.spot.side && eqb k e.spot.offset
+    turned = ap (λ (x : Bool). x && eqb e.spot.offset k) (same_turned e.spot.side at) ∙ ap (λ (x : Bool). same at e.spot.side && x) (turned_eqb e.spot.offset k)
 
 -- the records after one more has become an entry
 pub pushed_entries : (s t : List Entry) (u v : ℕ) (e : Entry) → u < length s → v ≡ u + 1 → t ≡ set s u e → take v t ≡ take u s ++ e ∷ []

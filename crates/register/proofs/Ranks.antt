@@ -18,14 +18,14 @@ same_turned Leading Trailing = refl
 same_turned Trailing Leading = refl
 same_turned Trailing Trailing = refl
 
-pub here_true : (side : Side) (k : ℕ) (e : Entry) → here side k e ≡ true → (e.side ≡ side) × (e.offset ≡ k)
+pub here_true : (side : Side) (k : ℕ) (e : Entry) → here side k e ≡ true → (e.spot.side ≡ side) × (e.spot.offset ≡ k)
 here_true side k e h =
-    let p = and_parts (same e.side side) (eqb e.offset k) h in
-    (same_sides e.side side p.0, eqb-true e.offset k p.1)
+    let p = and_parts (same e.spot.side side) (eqb e.spot.offset k) h in
+    (same_sides e.spot.side side p.0, eqb-true e.spot.offset k p.1)
 
-ranked_itself : (e : Entry) → ranked e.side e.offset e.rank e ≡ true
+ranked_itself : (e : Entry) → ranked e.spot.side e.spot.offset e.rank e ≡ true
 ranked_itself e =
-    and_from _ _ (and_from _ _ (same_self e.side) (eq-eqb e.offset e.offset refl)) (eq-eqb e.rank e.rank refl)
+    and_from _ _ (and_from _ _ (same_self e.spot.side) (eq-eqb e.spot.offset e.spot.offset refl)) (eq-eqb e.rank e.rank refl)
 
 -- how often a rank of a list is taken
 pub taken_once : (es : List Entry) (side : Side) (k r : ℕ) → Sound es → r < count_by (here side k) es → count_by (ranked side k r) es ≡ 1
@@ -38,17 +38,17 @@ pub taken_below : (es : List Entry) (side : Side) (k r : ℕ) → Sound es → 0
 taken_below es side k r h l =
     ⊎_elim (λ p. p) (λ p. absurd (omega (arith, not_taken es side k r h p))) (cases_lt r (count_by (here side k) es))
 
-ranks_below : (n : Side → ℕ → ℕ) (es : List Entry) → ((side : Side) (k r : ℕ) → 0 < count_by (ranked side k r) es → r < n side k) → AllByRecursion (λ e. e.rank < n e.side e.offset) es
+ranks_below : (n : Side → ℕ → ℕ) (es : List Entry) → ((side : Side) (k r : ℕ) → 0 < count_by (ranked side k r) es → r < n side k) → AllByRecursion (λ e. e.rank < n e.spot.side e.spot.offset) es
 ranks_below n [] h = tt
 ranks_below n (e ∷ es) h = (
-  h e.side e.offset e.rank
-      (omega (arith, count_by_cons (ranked e.side e.offset e.rank) e es, cond-true {A = ℕ} (ranked e.side e.offset e.rank e) 1 0 (ranked_itself e))),
+  h e.spot.side e.spot.offset e.rank
+      (omega (arith, count_by_cons (ranked e.spot.side e.spot.offset e.rank) e es, cond-true {A = ℕ} (ranked e.spot.side e.spot.offset e.rank e) 1 0 (ranked_itself e))),
   ranks_below n es (λ side k r g. h side k r (omega (arith, count_by_cons (ranked side k r) e es))),
 )
 
 -- each entry's rank is below the length of its list
 abbrev pub Below : List Entry → Entry → Type 0
-Below es e = e.rank < count_by (here e.side e.offset) es
+Below es e = e.rank < count_by (here e.spot.side e.spot.offset) es
 
 pub all_below : (es : List Entry) → Sound es → AllByRecursion (Below es) es
 all_below es h = ranks_below (λ side k. count_by (here side k) es) es (λ side k r l. taken_below es side k r h l)

@@ -45,7 +45,7 @@ count_either side first second ne (e ∷ es) =
     let a = count_by_cons (either side first second) e es in
     let b = count_by_cons (here side first) e es in
     let c = count_by_cons (here side second) e es in
-    let d = apart_one (same e.side side) e.offset first second ne in
+    let d = apart_one (same e.spot.side side) e.spot.offset first second ne in
     let i = count_either side first second ne es in
     omega arith
 

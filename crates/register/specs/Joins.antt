@@ -16,8 +16,7 @@ abbrev pub moved_to : Side → ℕ → ℕ → ℕ → ℕ → Entry → Entry
 moved_to side first second to ahead e =
     record {
       comment = e.comment;
-      side = e.side;
-      offset = cond (here side first e || here side second e) to e.offset;
+      spot = record { side = e.spot.side; offset = cond (here side first e || here side second e) to e.spot.offset };
       rank = cond (here side second e) (e.rank + ahead) e.rank;
     }
 

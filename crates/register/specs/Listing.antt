@@ -15,7 +15,7 @@ use Rattle.comments.specs.Lists.{same}
 use Rattle.register.specs.declared.entry.Entry.{Entry}
 
 abbrev pub here : Side → ℕ → Entry → Bool
-here side k e = same e.side side && e.offset == k
+here side k e = same e.spot.side side && e.spot.offset == k
 
 abbrev pub ranked : Side → ℕ → ℕ → Entry → Bool
 ranked side k r e = here side k e && e.rank == r

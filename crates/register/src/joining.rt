@@ -1,5 +1,5 @@
 // Putting two lists together, by one pass over the entries.
-ghost use Rattle.std.specs.Prelude.{◌≡◌, ◌+◌, ◌^◌, ◌<◌, ◌≤◌, true, ◌++◌, map, length, take, drop};
+ghost use Rattle.std.specs.Prelude.{◌≡◌, ◌+◌, ◌^◌, ◌<◌, true, map, length};
 ghost use Rattle.std.specs.List.{AllByRecursion};
 ghost use Rattle.register.specs.Listing.{here};
 ghost use Rattle.register.specs.Joins.{moved_to};
@@ -24,15 +24,15 @@ impl Joining {
         requires { here self.side self.second entry ≡ true → entry.rank + self.ahead < 2 ^ 64 }
         ensures { result ≡ moved_to self.side self.first self.second self.to self.ahead entry }
     {
-        if entry.is_in(self.side, self.second) {
+        if entry.is_in(self.side.at(self.second)) {
             Entry {
-                offset: self.to,
+                spot: self.side.at(self.to),
                 rank: entry.rank + self.ahead,
                 ..entry
             }
-        } else if entry.is_in(self.side, self.first) {
+        } else if entry.is_in(self.side.at(self.first)) {
             Entry {
-                offset: self.to,
+                spot: self.side.at(self.to),
                 ..entry
             }
         } else {
@@ -41,21 +41,12 @@ impl Joining {
     }
 }
 
-/// Puts two lists together. The records are all entries.
-fn rejoin_each(entries: &mut [Entry], joining: Joining)
+/// Puts two lists together.
+pub fn rejoin_each(entries: &mut [Entry], joining: Joining)
     requires { AllByRecursion (λ e. here joining.side joining.second e ≡ true → e.rank + joining.ahead < length entries.old) entries.old }
     ensures { entries.new ≡ map (moved_to joining.side joining.first joining.second joining.to joining.ahead) entries.old }
 {
     for e in entries.iter_mut() {
         *e = joining.rejoined(*e);
     }
-}
-
-/// The same where only the first `used` records are entries: those behind them stay.
-pub fn join(slots: &mut [Entry], used: usize, joining: Joining)
-    requires inside { used ≤ length slots.old }
-    requires fitting { AllByRecursion (λ e. here joining.side joining.second e ≡ true → e.rank + joining.ahead < length (take used slots.old)) (take used slots.old) }
-    ensures { slots.new ≡ map (moved_to joining.side joining.first joining.second joining.to joining.ahead) (take used slots.old) ++ drop used slots.old }
-{
-    rejoin_each(&mut slots[..used], joining);
 }

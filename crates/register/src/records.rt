@@ -4,17 +4,17 @@ ghost use Rattle.register.specs.Listing.{Sound};
 
 use crate::entry::Entry;
 
-/// The caller's records, of which the first `used` are entries.
+/// The caller's records, of which the first `used` are entries. No heap: the caller lends them, so they are not a `Vec`.
 #[derive(Drop)]
 pub(crate) struct Entries<'a> {
     pub(crate) slots: &'a mut [Entry],
     pub(crate) used: usize,
+    ghost inside: { used ≤ length slots.now },
 }
 
 /// In each list every rank below the list's length is that of exactly one entry, and no other rank is that of any.
 #[derive(Drop)]
 pub struct Register<'a> {
     pub(crate) entries: Entries<'a>,
-    ghost inside: { entries.used ≤ length entries.slots.now },
     ghost sound: { Sound (take entries.used entries.slots.now) },
 }

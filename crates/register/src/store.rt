@@ -1,14 +1,17 @@
-// The register as a comment store: what a move does to the entries, and what the questions answer.
-ghost use Rattle.std.specs.Prelude.{◌≡◌, ℕ, ◌⊎◌, ◌≢◌};
+// The register as a comment store: what an addition and a move do to the entries, and what the questions answer.
+ghost use Rattle.std.specs.Prelude.{◌≡◌, ℕ, ◌⊎◌, ◌≢◌, OnErr, slice_index_or};
 ghost use Rattle.comments.specs.declared.store.Side.{Side};
-ghost use Rattle.comments.specs.declared.store.Side.TheVariants.{Leading, Trailing};
+ghost use Rattle.comments.specs.Filling.{Fills};
 ghost use Rattle.comments.specs.Lists.{shifted};
+ghost use Rattle.register.specs.declared.entry.Entry.{Entry};
 ghost use Rattle.register.specs.Joins.{together};
 ghost use Rattle.register.specs.Held.{lists_of, spare_of, beyond};
 
+use crate::entry::Entry;
 use crate::joining::Joining;
 use crate::records::Register;
-use comments::{Side, Store};
+use comments::{Side, Spot, Store};
+use refusal::Refusal;
 
 impl<'a> Register<'a> {
     /// Puts the lists on a side at `first` and `second` together, in this order. `to` is one of the two: there the list is
@@ -20,7 +23,7 @@ impl<'a> Register<'a> {
         ensures beyond { beyond self.new ≡ beyond self.old }
         ensures lender { self.new.entries.slots.ghost_name ≡ self.old.entries.slots.ghost_name }
     {
-        let ahead = self.entries.count(side, first);
+        let ahead = self.entries.count(side.at(first));
         self.entries.join(Joining {
             side,
             first,
@@ -36,34 +39,46 @@ impl<'a> Store for Register<'a> {
 
     ghost vacant = { λ r. spare_of r };
 
+    /// Puts a comment last in a list. It is refused exactly where no record is spare, and then nothing changes.
+    fn add(&mut self, spot: Spot, comment: u32) -> Result<(), Refusal>
+        ensures fills { Fills (lists_of self.old) (lists_of self.new) (spare_of self.old) (spare_of self.new) spot.side spot.offset comment result }
+        ensures same { OnErr result (self.new ≡ self.old) }
+        ensures records { (i : ℕ) (d : Entry) → (i ≢ self.old.entries.used) → slice_index_or self.new.entries.slots.now i d ≡ slice_index_or self.old.entries.slots.now i d }
+        ensures lender { self.new.entries.slots.ghost_name ≡ self.old.entries.slots.ghost_name }
+    {
+        if self.spare() == 0 {
+            return Err(Refusal::TooFewRecords { needed: 1 });
+        }
+        let rank = self.entries.count(spot);
+        self.entries.push(Entry {
+            comment,
+            spot,
+            rank,
+        });
+        Ok(())
+    }
+
     /// The records that are not yet entries stay as they are.
-    fn move_leading(&mut self, from: u32, to: u32)
-        ensures moved { (side : Side) (k : ℕ) → lists_of self.new side k ≡ shifted Leading (lists_of self.old) from to side k }
+    fn move_list(&mut self, side: Side, from: u32, to: u32)
+        ensures moved { (at : Side) (k : ℕ) → lists_of self.new at k ≡ shifted side (lists_of self.old) from to at k }
         ensures vacant { spare_of self.new ≡ spare_of self.old }
         ensures beyond { beyond self.new ≡ beyond self.old }
         ensures lender { self.new.entries.slots.ghost_name ≡ self.old.entries.slots.ghost_name }
     {
-        if from != to {
-            self.put_together(Side::Leading, from, to, to);
+        if from == to {
+            return;
+        }
+        match side {
+            Side::Leading => self.put_together(side, from, to, to),
+            Side::Trailing => self.put_together(side, to, from, to),
         }
     }
 
-    fn move_trailing(&mut self, from: u32, to: u32)
-        ensures moved { (side : Side) (k : ℕ) → lists_of self.new side k ≡ shifted Trailing (lists_of self.old) from to side k }
-        ensures vacant { spare_of self.new ≡ spare_of self.old }
-        ensures beyond { beyond self.new ≡ beyond self.old }
-        ensures lender { self.new.entries.slots.ghost_name ≡ self.old.entries.slots.ghost_name }
-    {
-        if from != to {
-            self.put_together(Side::Trailing, to, from, to);
-        }
+    fn count(&self, spot: Spot) -> usize {
+        self.entries.count(spot)
     }
 
-    fn count(&self, side: Side, offset: u32) -> usize {
-        self.entries.count(side, offset)
-    }
-
-    fn comment(&self, side: Side, offset: u32, rank: usize) -> Option<u32> {
-        self.entries.comment(side, offset, rank)
+    fn comment(&self, spot: Spot, rank: usize) -> Option<u32> {
+        self.entries.comment(spot, rank)
     }
 }

@@ -10,14 +10,14 @@ use Rattle.spliced.specs.declared.notes.Note.{Note}
 use Rattle.spliced.specs.declared.heads.NoteList.{NoteList}
 use Rattle.spliced.specs.declared.heads.Head.{Head}
 use Rattle.spliced.specs.Notes.{links, comments, comment_at, linked_note}
-use Rattle.spliced.specs.Heads.{head_links, blank, list_at, with_list, key, listed}
+use Rattle.spliced.specs.Heads.{head_links, blank, list_at, with_list, key, At, Nowhere, listed}
 use Rattle.spliced.specs.Layout.{Fit, used, Layout, Laid}
 use Rattle.spliced.proofs.Sums.{one_of}
 use Rattle.spliced.proofs.Steps.{Holding, took, extended, opened}
-use Rattle.spliced.proofs.Meaning.{Means, means, key_own, map_alike}
+use Rattle.spliced.proofs.Meaning.{Means, means, key_own, key_spot, map_alike}
 use Rattle.spliced.proofs.Changes.{grown_lists}
 use Rattle.spliced.proofs.Records.{links_joined, comments_joined, links_written, comments_written, head_links_held, holding}
-use Rattle.spliced.proofs.Whole.{At, Nowhere, rooms, below}
+use Rattle.spliced.proofs.Whole.{rooms, below}
 use Rattle.spliced.proofs.Calls.{moved_layout, fresh_by}
 
 -- the notes of a list are slots
@@ -32,7 +32,7 @@ module _ (notes : List Note) (heads : List Head) (fn fh held : ℕ) (c : ℕ) (o
 
   -- the one note as a list
   abbrev alone : Side → ℕ → NoteList
-  alone side k = record { side = side; offset = k; first = fn; last = fn }
+  alone side k = record { spot = record { side = side; offset = k }; first = fn; last = fn }
 
   fn_slot : Slot (length (links notes)) fn
   fn_slot = y.notes.1
@@ -74,12 +74,11 @@ module _ (notes : List Note) (heads : List Head) (fn fh held : ℕ) (c : ℕ) (o
       → At heads side k th b
       → l.first ≡ b.first
       → l.last ≡ fn
-      → l.side ≡ b.side
-      → l.offset ≡ b.offset
+      → l.spot ≡ b.spot
       → notes' ≡ relinked linked_note taken b.last fn d
       → heads' ≡ with_list heads th (Some l)
       → Laid notes' heads' (link_at (links notes) fn) fh (held + 1) × ((at : Side) (j : ℕ) → listed notes' heads' at j ≡ added (listed notes heads) side k c at j)
-  put_last notes' heads' side k th b l d target first last sided offset en eh = (
+  put_last notes' heads' side k th b l d target first last spot en eh = (
     (owned', ns, hs, after),
     grown_lists (comments notes) (comments notes') (room (length heads)) (list_at heads) (list_at heads') owned (listed notes heads) (listed notes' heads') side k c (th - 1) l (get_or owned (th - 1) [] ++ (fn ∷ []))
         inside
@@ -112,7 +111,7 @@ module _ (notes : List Note) (heads : List Head) (fn fh held : ℕ) (c : ℕ) (o
       hold n = subst (λ (h : List Head). Holding (list_at heads) n (th - 1) (Some l) (list_at h)) (sym eh) (holding heads n (th - 1) new (omega (arith, target.slot_in.0, target.slot_in.1)))
 
       same_key : (at : Side) (j : ℕ) → key at j (Some l) ≡ key at j (Some b)
-      same_key at j = ap (λ (x : Side). key at j (Some (record { side = x; offset = l.offset; first = l.first; last = l.last }))) sided ∙ ap (λ (x : ℕ). key at j (Some (record { side = b.side; offset = x; first = l.first; last = l.last }))) offset
+      same_key at j = key_spot at j l b spot
 
       before : Means (comments notes) (room (length heads)) (list_at heads) owned (listed notes heads)
       before = means notes heads fn fh held owned (fn ∷ ns) hs y
@@ -156,7 +155,7 @@ pub put_first :
     → Layout (links notes) (head_links heads) (list_at heads) fn fh held owned (fn ∷ ns) (fh ∷ hs) []
     → Nowhere heads side k
     → notes' ≡ set notes (fn - 1) (record { comment = c; next = 0 })
-    → heads' ≡ with_list heads fh (Some (record { side = side; offset = k; first = fn; last = fn }))
+    → heads' ≡ with_list heads fh (Some (record { spot = record { side = side; offset = k }; first = fn; last = fn }))
     → Laid notes' heads' (link_at (links notes) fn) (link_at (head_links heads) fh) (held + 1) × ((at : Side) (j : ℕ) → listed notes' heads' at j ≡ added (listed notes heads) side k c at j)
 put_first notes notes' heads heads' fn fh held c owned ns hs side k y none en eh = (
   (owned', ns, hs, after),
@@ -173,7 +172,7 @@ put_first notes notes' heads heads' fn fh held c owned ns hs side k y none en eh
 )
   where
     l : NoteList
-    l = record { side = side; offset = k; first = fn; last = fn }
+    l = record { spot = record { side = side; offset = k }; first = fn; last = fn }
 
     r : room (length (head_links heads)) ≡ room (length heads)
     r = rooms notes heads fn fh held
@@ -188,13 +187,13 @@ put_first notes notes' heads heads' fn fh held c owned ns hs side k y none en eh
     inside = omega (arith, r, sh.0, sh.1)
 
     new : Head
-    new = record { list = Some (record { side = side; offset = k; first = fn; last = fn }); next = (get_or heads (fh - 1) blank).next }
+    new = record { list = Some (record { spot = record { side = side; offset = k }; first = fn; last = fn }); next = (get_or heads (fh - 1) blank).next }
 
     long : length heads' ≡ length heads
-    long = ap length eh ∙ length-set heads (fh - 1) (record { list = Some (record { side = side; offset = k; first = fn; last = fn }); next = (get_or heads (fh - 1) blank).next })
+    long = ap length eh ∙ length-set heads (fh - 1) (record { list = Some (record { spot = record { side = side; offset = k }; first = fn; last = fn }); next = (get_or heads (fh - 1) blank).next })
 
-    hold : (n : ℕ) → Holding (list_at heads) n (fh - 1) (Some (record { side = side; offset = k; first = fn; last = fn })) (list_at heads')
-    hold n = subst (λ (h : List Head). Holding (list_at heads) n (fh - 1) (Some (record { side = side; offset = k; first = fn; last = fn })) (list_at h)) (sym eh) (holding heads n (fh - 1) (record { list = Some (record { side = side; offset = k; first = fn; last = fn }); next = (get_or heads (fh - 1) blank).next }) (omega (arith, inside)))
+    hold : (n : ℕ) → Holding (list_at heads) n (fh - 1) (Some (record { spot = record { side = side; offset = k }; first = fn; last = fn })) (list_at heads')
+    hold n = subst (λ (h : List Head). Holding (list_at heads) n (fh - 1) (Some (record { spot = record { side = side; offset = k }; first = fn; last = fn })) (list_at h)) (sym eh) (holding heads n (fh - 1) (record { list = Some (record { spot = record { side = side; offset = k }; first = fn; last = fn }); next = (get_or heads (fh - 1) blank).next }) (omega (arith, inside)))
 
     empty : used (list_at heads (fh - 1)) ≡ 0
     empty =
@@ -219,9 +218,9 @@ put_first notes notes' heads heads' fn fh held c owned ns hs side k y none en eh
     after =
         moved_layout (set (links notes) (fn - 1) 0) (links notes') (head_links heads) (head_links heads') (list_at heads') (link_at (links notes) fn) (link_at (head_links heads) fh) (held + 1) owned' ns hs []
         (ap links en ∙ links_written notes (fn - 1) (record { comment = c; next = 0 }))
-        (ap head_links eh ∙ head_links_held heads fh (Some (record { side = side; offset = k; first = fn; last = fn })))
-        (opened (set (links notes) (fn - 1) 0) (head_links heads) (list_at heads) (link_at (links notes) fn) fh (held + 1) owned fh (record { side = side; offset = k; first = fn; last = fn }) (list_at heads') ns hs (fn ∷ [])
+        (ap head_links eh ∙ head_links_held heads fh (Some (record { spot = record { side = side; offset = k }; first = fn; last = fn })))
+        (opened (set (links notes) (fn - 1) 0) (head_links heads) (list_at heads) (link_at (links notes) fn) fh (held + 1) owned fh (record { spot = record { side = side; offset = k }; first = fn; last = fn }) (list_at heads') ns hs (fn ∷ [])
         (one_note notes heads fn fh held c owned ns (fh ∷ hs) y side k)
-        (λ i at j q. fresh_by heads side k (record { side = side; offset = k; first = fn; last = fn }) (key_own (record { side = side; offset = k; first = fn; last = fn })) none i at j (omega (arith, r)))
+        (λ i at j q. fresh_by heads side k (record { spot = record { side = side; offset = k }; first = fn; last = fn }) (key_own (record { spot = record { side = side; offset = k }; first = fn; last = fn })) none i at j (omega (arith, r)))
         (hold (room (length (head_links heads))))
         (fresh notes heads fn fh held c owned ns (fh ∷ hs) y))

@@ -13,10 +13,10 @@ use Rattle.spliced.specs.declared.notes.Note.{Note}
 use Rattle.spliced.specs.declared.heads.NoteList.{NoteList}
 use Rattle.spliced.specs.declared.heads.Head.{Head}
 use Rattle.spliced.specs.Notes.{links, comments, comment_at}
-use Rattle.spliced.specs.Heads.{key, listed}
+use Rattle.spliced.specs.Heads.{key, At, Nowhere, listed}
 use Rattle.spliced.specs.Layout.{Laid}
 use Rattle.spliced.proofs.Meaning.{means}
-use Rattle.spliced.proofs.Whole.{At, Nowhere, fit_at}
+use Rattle.spliced.proofs.Whole.{fit_at}
 
 -- equal lists where there is a layout are equal lists
 pub list_from : {P : Type 0} (xs ys : List ℕ) → ∥ P ∥₁ → (P → xs ≡ ys) → xs ≡ ys

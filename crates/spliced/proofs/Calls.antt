@@ -10,13 +10,13 @@ use Rattle.spliced.specs.declared.notes.Note.{Note}
 use Rattle.spliced.specs.declared.heads.NoteList.{NoteList}
 use Rattle.spliced.specs.declared.heads.Head.{Head}
 use Rattle.spliced.specs.Notes.{links, comments, linked_note}
-use Rattle.spliced.specs.Heads.{head_links, blank, list_at, with_list, key, front_of, listed}
+use Rattle.spliced.specs.Heads.{head_links, blank, list_at, with_list, key, At, Nowhere, front_of, listed}
 use Rattle.spliced.specs.Layout.{Fit, used, Layout, Laid}
 use Rattle.spliced.proofs.Steps.{Holding, detached, extended, relabelled}
-use Rattle.spliced.proofs.Meaning.{Means, means, key_twice, key_own}
+use Rattle.spliced.proofs.Meaning.{Means, means, key_twice, key_own, key_spot}
 use Rattle.spliced.proofs.Changes.{joined_lists, relabelled_lists}
 use Rattle.spliced.proofs.Records.{links_joined, comments_joined, head_links_held, head_links_released, holding}
-use Rattle.spliced.proofs.Whole.{At, Nowhere, rooms, below, fit_at}
+use Rattle.spliced.proofs.Whole.{rooms, below, fit_at}
 
 -- the same layout, of equal links
 pub moved_layout : (m m' hm hm' : List ℕ) (ls : ℕ → Option NoteList) (fn fh held : ℕ) (owned : List (List ℕ)) (ns hs loose : List ℕ) → m' ≡ m → hm' ≡ hm → Layout m hm ls fn fh held owned ns hs loose → Layout m' hm' ls fn fh held owned ns hs loose
@@ -43,12 +43,11 @@ pub relabelled_all :
     → Nowhere heads side to
     → l.first ≡ a.first
     → l.last ≡ a.last
-    → l.side ≡ a.side
-    → l.offset ≡ to
+    → l.spot ≡ record { side = side; offset = to }
     → heads' ≡ with_list heads slot (Some l)
     → Laid notes heads fn fh held
     → Laid notes heads' fn fh held × ((at : Side) (k : ℕ) → listed notes heads' at k ≡ shifted side (listed notes heads) from to at k)
-relabelled_all notes heads heads' fn fh held side from to slot a l ne found none first last sided offset e p = (
+relabelled_all notes heads heads' fn fh held side from to slot a l ne found none first last spot e p = (
   (p.0, p.1, p.2, after),
   relabelled_lists (comments notes) (room (length heads)) (list_at heads) (list_at heads') p.0 (listed notes heads) (listed notes heads') side from to (slot - 1) a l ne (omega (arith, found.slot_in.0, found.slot_in.1)) found.holds found.keyed kl none (hold (room (length heads)))
       (λ i j at k u v. p.3.keys i j at k (omega (arith, r)) (omega (arith, r)))
@@ -65,11 +64,8 @@ relabelled_all notes heads heads' fn fh held side from to slot a l ne found none
     same_room : room (length heads') ≡ room (length heads)
     same_room = ap room long
 
-    at_side : side ≡ l.side
-    at_side = (key_twice a.side side a.offset from a (key_own a) found.keyed).0 ∙ sym sided
-
     kl : key side to (Some l) ≡ true
-    kl = ap (λ (x : Side). key x to (Some l)) at_side ∙ ap (λ (x : ℕ). key l.side x (Some l)) (sym offset) ∙ key_own l
+    kl = key_spot side to l (record { spot = record { side = side; offset = to }; first = l.first; last = l.last }) spot ∙ key_own (record { spot = record { side = side; offset = to }; first = l.first; last = l.last })
 
     hold : (n : ℕ) → Holding (list_at heads) n (slot - 1) (Some l) (list_at heads')
     hold n = subst (λ (h : List Head). Holding (list_at heads) n (slot - 1) (Some l) (list_at h)) (sym e) (holding heads n (slot - 1) (record { list = Some l; next = (get_or heads (slot - 1) blank).next }) (omega (arith, found.slot_in.0, found.slot_in.1)))
@@ -96,14 +92,13 @@ pub joined_all :
     → At heads side to th b
     → l.first ≡ (front_of side a b).first
     → l.last ≡ (front_of side b a).last
-    → l.side ≡ b.side
-    → l.offset ≡ b.offset
+    → l.spot ≡ b.spot
     → notes' ≡ relinked linked_note notes (front_of side a b).last (front_of side b a).first d
     → heads₁ ≡ with_list heads th (Some l)
     → heads' ≡ set heads₁ (sh - 1) (record { list = None; next = fh })
     → Laid notes heads fn fh held
     → Laid notes' heads' fn sh held × ((at : Side) (k : ℕ) → listed notes' heads' at k ≡ shifted side (listed notes heads) from to at k)
-joined_all notes notes' heads heads₁ heads' fn fh held side from to sh th a b l d ne source target first last sided offset en e₁ e' p = (
+joined_all notes notes' heads heads₁ heads' fn fh held side from to sh th a b l d ne source target first last spot en e₁ e' p = (
   (owned', p.1, sh ∷ p.2, after),
   joined_lists (comments notes) (room (length heads)) (list_at heads) (list_at held₁) (list_at heads') p.0 (listed notes heads) (listed notes' heads') side from to (sh - 1) (th - 1) a b l ne
       (omega (arith, source.slot_in.0, source.slot_in.1))
@@ -150,7 +145,7 @@ joined_all notes notes' heads heads₁ heads' fn fh held side from to sh th a b 
     takes n = subst (λ (h : List Head). Holding (list_at held₁) n (th - 1) (Some l) (list_at h)) (sym turned) (holding held₁ n (th - 1) new (omega (arith, target.slot_in.0, target.slot_in.1, length-set heads (sh - 1) (record { list = None; next = fh }))))
 
     same_key : (at : Side) (k : ℕ) → key at k (Some l) ≡ key at k (Some b)
-    same_key at k = ap (λ (x : Side). key at k (Some (record { side = x; offset = l.offset; first = l.first; last = l.last }))) sided ∙ ap (λ (x : ℕ). key at k (Some (record { side = b.side; offset = x; first = l.first; last = l.last }))) offset
+    same_key at k = key_spot at k l b spot
 
     split : Layout (links notes) (set (head_links heads) (sh - 1) fh) (list_at held₁) fn (sh - 1 + 1) held (set p.0 (sh - 1) []) p.1 ((sh - 1 + 1) ∷ p.2) (get_or p.0 (sh - 1) [])
     split = detached (links notes) (head_links heads) (list_at heads) fn fh held p.0 (sh - 1) a (list_at held₁) p.1 p.2 (below notes heads fn fh held side from sh a source) source.holds (gives (room (length (head_links heads)))) p.3

@@ -195,4 +195,4 @@ grown_lists cs cs' n ls ls' owned f f' side k c t l ks pt long kl was h grows sa
         (λ i q u. ap (map (comment_at cs')) (get_or-set_other owned t i ks [] (λ d. not_l (was at j (ap (λ (x : ℕ). key at j (ls x)) (sym d) ∙ u)))) ∙ same-notes i q)
       where
         not_l : key at j (Some l) ≡ true → ⊥
-        not_l u = let p = key_twice side at k j l kl u in both_ways (same at side && eqb j k) e (ap (λ (x : Side). same x side && eqb j k) p.0 ∙ ap (λ (x : ℕ). same side side && eqb x k) p.1 ∙ key_own (record { side = side; offset = k; first = 0; last = 0 }))
+        not_l u = let p = key_twice side at k j l kl u in both_ways (same at side && eqb j k) e (ap (λ (x : Side). same x side && eqb j k) p.0 ∙ ap (λ (x : ℕ). same side side && eqb x k) p.1 ∙ key_own (record { spot = record { side = side; offset = k }; first = 0; last = 0 }))

@@ -10,4 +10,3 @@ mod Adding
 mod Turns
 mod Asking
 mod Fresh
-mod Idling

@@ -3,6 +3,7 @@ use Rattle.std.proofs.Common.{◌≡◌, ℕ, zero, suc, ◌<◌, ◌≤◌, Boo
 use Rattle.std.proofs.lemmas.List.{length-map, length-take, get_or-take}
 use Rattle.std.proofs.lemmas.Bool.{cases_eq, cases_Bool, cond-true, cond-false, and_parts, eqb-true, eq-eqb}
 use Rattle.comments.specs.declared.store.Side.{Side}
+use Rattle.comments.specs.declared.store.Spot.{Spot}
 use Rattle.comments.specs.Lists.{Lists, same}
 use Rattle.comments.proofs.Parts.{same_sides, same_self}
 use Rattle.chain.specs.Chain.{room, link_at, Chain, times}
@@ -109,11 +110,15 @@ elsewhere cs cs' n ls ls' owned owned' f f' side k a b heads notes =
     (seek (λ i. key side k (ls i)) n)
 
 -- the side and the offset of a list
-pub key_own : (l : NoteList) → key l.side l.offset (Some l) ≡ true
-key_own l = rw (same_self l.side) (eq-eqb l.offset l.offset refl)
+pub key_own : (l : NoteList) → key l.spot.side l.spot.offset (Some l) ≡ true
+key_own l = rw (same_self l.spot.side) (eq-eqb l.spot.offset l.spot.offset refl)
 
-pub key_parts : (side : Side) (k : ℕ) (l : NoteList) → key side k (Some l) ≡ true → (side ≡ l.side) × (k ≡ l.offset)
-key_parts side k l e = let p = and_parts (same side l.side) (eqb k l.offset) e in (same_sides side l.side p.0, eqb-true k l.offset p.1)
+pub key_parts : (side : Side) (k : ℕ) (l : NoteList) → key side k (Some l) ≡ true → (side ≡ l.spot.side) × (k ≡ l.spot.offset)
+key_parts side k l e = let p = and_parts (same side l.spot.side) (eqb k l.spot.offset) e in (same_sides side l.spot.side p.0, eqb-true k l.spot.offset p.1)
+
+-- lists at one spot have one side and offset
+pub key_spot : (side : Side) (k : ℕ) (a b : NoteList) → a.spot ≡ b.spot → key side k (Some a) ≡ key side k (Some b)
+key_spot side k a b e = ap (λ (x : Spot). key side k (Some (record { spot = x; first = a.first; last = a.last }))) e
 
 -- two numbers of lists of one side and offset
 pub key_twice : (side at : Side) (k j : ℕ) (l : NoteList) → key side k (Some l) ≡ true → key at j (Some l) ≡ true → (at ≡ side) × (j ≡ k)

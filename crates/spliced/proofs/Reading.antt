@@ -1,5 +1,5 @@
 -- Walks along the notes of a list.
-use Rattle.std.proofs.Common.{◌≡◌, ℕ, suc, ◌+◌, ◌-◌, ◌<◌, List, map, length, Some, None, Option, sym, ap, ◌∙◌, subst, add-zero, zero-add, arith, MatchOption}
+use Rattle.std.proofs.Common.{◌≡◌, ℕ, suc, ◌+◌, ◌-◌, ◌<◌, List, map, length, Some, None, sym, ap, ◌∙◌, add-zero, zero-add, arith}
 use Rattle.std.specs.List.{slice_get}
 use Rattle.chain.specs.Chain.{Slot, link_at, Chain}
 use Rattle.chain.proofs.Walks.{ended, led_on}
@@ -39,17 +39,3 @@ left_on m first at rank f s w ks c =
     let p = w ks c in
     let q = led_on m at p.0 s p.1 in
     ap (slice_get (map f ks)) (sym (add-zero rank)) ∙ p.2 f 0 ∙ ap (λ (js : List ℕ). slice_get (map f js) 0) q.1
-
--- the answer of a read at that slot
-pub left_read :
-    (m : List ℕ)
-    (first at i rank : ℕ)
-    (f : ℕ → ℕ)
-    (r : Option ℕ)
-    → MatchOption r (Slot (length m) at → ⊥) (λ c. Slot (length m) at × (c ≡ f at))
-    → i ≡ rank
-    → Left m first at i
-    → (ks : List ℕ) → Chain m first ks → r ≡ slice_get (map f ks) rank
-left_read m first at i rank f None h e w ks c = sym (left_off m first at i rank f h (omega arith) w ks c)
-left_read m first at i rank f (Some x) h e w ks c =
-    ap Some h.1 ∙ sym (left_on m first at rank f h.0 (subst (λ (j : ℕ). Left m first at j) e w) ks c)

@@ -1,6 +1,7 @@
 -- The steps of a call put together, over plain values.
 use Rattle.std.proofs.Common.{◌≡◌, ℕ, ◌+◌, ◌-◌, ◌<◌, min, List, [], ◌∷◌, length, get_or, set, Some, None, Option, sym, refl, ap, ◌∙◌, subst, arith, length-set}
 use Rattle.comments.specs.declared.store.Side.{Side}
+use Rattle.comments.specs.declared.store.Spot.{Spot}
 use Rattle.comments.specs.declared.store.Side.TheVariants.{Leading, Trailing}
 use Rattle.comments.specs.Lists.{shifted, added}
 use Rattle.chain.specs.Chain.{room, Slot, link_at, Chain, Off, times, relinked, Beyond}
@@ -9,10 +10,10 @@ use Rattle.spliced.specs.declared.notes.Note.{Note}
 use Rattle.spliced.specs.declared.heads.NoteList.{NoteList}
 use Rattle.spliced.specs.declared.heads.Head.{Head}
 use Rattle.spliced.specs.Notes.{links, linked_note}
-use Rattle.spliced.specs.Heads.{head_links, blank, list_at, with_list, front_of, listed}
+use Rattle.spliced.specs.Heads.{head_links, blank, list_at, with_list, At, Nowhere, front_of, listed}
 use Rattle.spliced.specs.Layout.{Layout, Laid}
 use Rattle.spliced.proofs.Records.{head_links_held}
-use Rattle.spliced.proofs.Whole.{At, Nowhere, slot_from, none_from, last_note, not_unused, free_note, free_head}
+use Rattle.spliced.proofs.Whole.{slot_from, none_from, last_note, not_unused, free_note, free_head}
 use Rattle.spliced.proofs.Calls.{relabelled_all, joined_all}
 use Rattle.spliced.proofs.Adding.{put_last, put_first}
 
@@ -24,6 +25,13 @@ pub beyond_twice : {X : Type 0} (s t u : List X) (k j : ℕ) (x y : X) → Slot 
 beyond_twice s t u k j x y p q e d =
     let a : Beyond s t = beyond_written s t k x p e in
     beyond_more s t u a (beyond_written t u j y (subst (λ (n : ℕ). Slot n j) (sym a.0) q) d)
+
+-- where a list was sought at a spot, it was sought on a side and at an offset
+pub found_at : (heads : List Head) (spot : Spot) (side : Side) (k slot : ℕ) (l : NoteList) → spot ≡ record { side = side; offset = k } → At heads spot.side spot.offset slot l → At heads side k slot l
+found_at heads spot side k slot l e a = subst (λ (x : Spot). At heads x.side x.offset slot l) e a
+
+pub missed_at : (heads : List Head) (spot : Spot) (side : Side) (k : ℕ) → spot ≡ record { side = side; offset = k } → Nowhere heads spot.side spot.offset → Nowhere heads side k
+missed_at heads spot side k e none = subst (λ (x : Spot). Nowhere heads x.side x.offset) e none
 
 -- the first of two lists ends at a slot
 pub front_slot : (notes : List Note) (heads : List Head) (fn fh held : ℕ) (side : Side) (from to sh th : ℕ) (a b l : NoteList) → At heads side from sh a → At heads side to th b → l ≡ front_of side a b → ∥ Laid notes heads fn fh held ∥₁ → Slot (length notes) l.last
@@ -54,15 +62,17 @@ pub relabel :
     (side : Side)
     (from to slot : ℕ)
     (a : NoteList)
+    (spot : Spot)
     → (from ≡ to → ⊥)
     → At heads side from slot a
     → Nowhere heads side to
-    → heads' ≡ with_list heads slot (Some (record { side = a.side; offset = to; first = a.first; last = a.last }))
+    → spot ≡ record { side = side; offset = to }
+    → heads' ≡ with_list heads slot (Some (record { spot = spot; first = a.first; last = a.last }))
     → fh' ≡ fh
     → Laid notes heads fn fh held
     → Laid notes heads' fn fh' held × ((at : Side) (k : ℕ) → listed notes heads' at k ≡ shifted side (listed notes heads) from to at k)
-relabel notes heads heads' fn fh fh' held side from to slot a ne found none e d p =
-    let q = relabelled_all notes heads heads' fn fh held side from to slot a (record { side = a.side; offset = to; first = a.first; last = a.last }) ne found none refl refl refl refl e p in
+relabel notes heads heads' fn fh fh' held side from to slot a spot ne found none es e d p =
+    let q = relabelled_all notes heads heads' fn fh held side from to slot a (record { spot = spot; first = a.first; last = a.last }) ne found none refl refl es e p in
     (subst (λ (x : ℕ). Laid notes heads' fn x held) (sym d) q.0, q.1)
 
 -- two lists joined, and the head of one given back
@@ -80,7 +90,7 @@ pub join_both :
     → front ≡ front_of side a b
     → back ≡ front_of side b a
     → notes' ≡ relinked linked_note notes front.last back.first d
-    → heads₁ ≡ with_list heads th (Some (record { side = b.side; offset = b.offset; first = front.first; last = back.last }))
+    → heads₁ ≡ with_list heads th (Some (record { spot = b.spot; first = front.first; last = back.last }))
     → fh₁ ≡ fh
     → heads' ≡ set heads₁ (sh - 1) (record { list = None; next = fh₁ })
     → fn' ≡ fn
@@ -89,7 +99,7 @@ pub join_both :
     → Laid notes' heads' fn' fh' held × ((at : Side) (k : ℕ) → listed notes' heads' at k ≡ shifted side (listed notes heads) from to at k)
 join_both notes notes' heads heads₁ heads' fn fn' fh fh₁ fh' held side from to sh th a b front back d ne source target ef eb en e₁ d₁ e' dn dh p =
     let q =
-    joined_all notes notes' heads heads₁ heads' fn fh held side from to sh th a b (record { side = b.side; offset = b.offset; first = front.first; last = back.last }) d ne source target (ap (λ (l : NoteList). l.first) ef) (ap (λ (l : NoteList). l.last) eb) refl refl
+    joined_all notes notes' heads heads₁ heads' fn fh held side from to sh th a b (record { spot = b.spot; first = front.first; last = back.last }) d ne source target (ap (λ (l : NoteList). l.first) ef) (ap (λ (l : NoteList). l.last) eb) refl
     (en ∙ ap (λ (l : NoteList). relinked linked_note notes l.last back.first d) ef ∙ ap (λ (l : NoteList). relinked linked_note notes (front_of side a b).last l.first d) eb)
     e₁
     (e' ∙ ap (λ (x : ℕ). set heads₁ (sh - 1) (record { list = None; next = x })) d₁)
@@ -98,6 +108,10 @@ join_both notes notes' heads heads₁ heads' fn fn' fh fh₁ fh' held side from 
       subst (λ (x : ℕ). Laid notes' heads' x fh' held) (sym dn) (subst (λ (x : ℕ). Laid notes' heads' fn x held) (sym dh) q.0),
       q.1,
     )
+
+-- a store that says how many more it holds, and not 0, has room
+pub has_room : (a b n r : ℕ) → r ≡ min a b - n → (r ≡ 0 → ⊥) → n < min a b
+has_room a b n r e some = omega (arith, e, some)
 
 -- where there is room, the next note and the next head are slots
 pub next_note : (notes : List Note) (heads : List Head) (fn fh held : ℕ) → held < min (room (length notes)) (room (length heads)) → ∥ Laid notes heads fn fh held ∥₁ → Slot (length notes) fn
@@ -136,7 +150,7 @@ pub grow :
     → notes₁ ≡ set notes (note - 1) (record { comment = c; next = 0 })
     → notes' ≡ relinked linked_note notes₁ b.last note d
     → fn' ≡ fn₁
-    → heads' ≡ with_list heads th (Some (record { side = b.side; offset = b.offset; first = b.first; last = note }))
+    → heads' ≡ with_list heads th (Some (record { spot = b.spot; first = b.first; last = note }))
     → fh' ≡ fh
     → Laid notes heads fn fh held
     → Laid notes' heads' fn' fh' (held + 1) × ((at : Side) (j : ℕ) → listed notes' heads' at j ≡ added (listed notes heads) side k c at j)
@@ -147,7 +161,7 @@ grow notes notes₁ notes' heads heads' fn fn₁ fn' fh fh' held note side k th 
     subst (λ (ks : List ℕ). Layout (links notes) (head_links heads) (list_at heads) fn fh held p.0 ks p.2 []) f.1 p.3
     in
     let q =
-    put_last notes heads fn fh held c p.0 f.0 p.2 y notes' heads' side k th b (record { side = b.side; offset = b.offset; first = b.first; last = note }) d found refl e refl refl
+    put_last notes heads fn fh held c p.0 f.0 p.2 y notes' heads' side k th b (record { spot = b.spot; first = b.first; last = note }) d found refl e refl
     (e' ∙ ap (λ (s : List Note). relinked linked_note s b.last note d) (e₁ ∙ ap (λ (x : ℕ). set notes (x - 1) (record { comment = c; next = 0 })) e) ∙ ap (λ (x : ℕ). relinked linked_note (set notes (fn - 1) (record { comment = c; next = 0 })) b.last x d) e)
     eh
     in (
@@ -167,7 +181,7 @@ pub begin :
     → note ≡ fn
     → fn' ≡ link_at (links notes) note
     → notes' ≡ set notes (note - 1) (record { comment = c; next = 0 })
-    → heads' ≡ with_list heads fh (Some (record { side = side; offset = k; first = note; last = note }))
+    → heads' ≡ with_list heads fh (Some (record { spot = record { side = side; offset = k }; first = note; last = note }))
     → fh' ≡ link_at (head_links heads) fh
     → Laid notes heads fn fh held
     → Laid notes' heads' fn' fh' (held + 1) × ((at : Side) (j : ℕ) → listed notes' heads' at j ≡ added (listed notes heads) side k c at j)
@@ -183,7 +197,7 @@ begin notes notes' heads heads' fn fn' fh fh' held note side k c r none e d' e' 
     let q =
     put_first notes notes' heads heads' fn fh held c p.0 f.0 g.0 side k y none
     (e' ∙ ap (λ (x : ℕ). set notes (x - 1) (record { comment = c; next = 0 })) e)
-    (eh ∙ ap (λ (x : ℕ). with_list heads fh (Some (record { side = side; offset = k; first = x; last = x }))) e)
+    (eh ∙ ap (λ (x : ℕ). with_list heads fh (Some (record { spot = record { side = side; offset = k }; first = x; last = x }))) e)
     in (
       subst (λ (x : ℕ). Laid notes' heads' x fh' (held + 1)) (sym (d' ∙ ap (link_at (links notes)) e)) (subst (λ (x : ℕ). Laid notes' heads' (link_at (links notes) fn) x (held + 1)) (sym dh) q.0),
       q.1,

@@ -1,5 +1,5 @@
 -- A whole call on the records of a store: that they lie well again, and what they mean then.
-use Rattle.std.proofs.Common.{◌≡◌, ℕ, ◌+◌, ◌-◌, ◌<◌, ◌≤◌, true, false, List, [], ◌∷◌, length, get_or, Some, None, Option, sym, ap, subst, arith}
+use Rattle.std.proofs.Common.{◌≡◌, ℕ, ◌+◌, ◌-◌, ◌<◌, ◌≤◌, List, [], ◌∷◌, length, get_or, Some, None, Option, sym, ap, subst, arith}
 use mathlib.Core.Logic.{∥∥₁_elim}
 use native.Mathlib.Bridge.{le_prop}
 use Rattle.std.proofs.lemmas.List.{length-map}
@@ -10,7 +10,7 @@ use Rattle.spliced.specs.declared.notes.Note.{Note}
 use Rattle.spliced.specs.declared.heads.NoteList.{NoteList}
 use Rattle.spliced.specs.declared.heads.Head.{Head}
 use Rattle.spliced.specs.Notes.{links}
-use Rattle.spliced.specs.Heads.{head_links, list_at, key}
+use Rattle.spliced.specs.Heads.{head_links, list_at, At}
 use Rattle.spliced.specs.Layout.{Fit, used, Laid}
 use Rattle.spliced.proofs.Sums.{none_empty}
 use Rattle.spliced.proofs.Steps.{last_slot, fit_long}
@@ -21,15 +21,6 @@ slot_from n k h f = (∥∥₁_elim h le_prop (λ p. (f p).0), ∥∥₁_elim h 
 
 pub none_from : {P : Type 0} (n : ℕ) → ∥ P ∥₁ → (P → n ≡ 0) → n ≡ 0
 none_from n h f = let l : n ≤ 0 = ∥∥₁_elim h le_prop (λ p. omega (arith, f p)) in omega arith
-
--- where a list was found
-pub record At (heads : List Head) (side : Side) (k slot : ℕ) (l : NoteList) : Type 0 where
-  pub slot_in : Slot (length heads) slot
-  pub holds : list_at heads (slot - 1) ≡ Some l
-  pub keyed : key side k (Some l) ≡ true
-
-abbrev pub Nowhere : List Head → Side → ℕ → Type 0
-Nowhere heads side k = (i : ℕ) → i < room (length heads) → key side k (list_at heads i) ≡ false
 
 module _ (notes : List Note) (heads : List Head) (fn fh held : ℕ) where
   pub rooms : room (length (head_links heads)) ≡ room (length heads)

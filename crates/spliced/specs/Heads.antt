@@ -4,16 +4,18 @@
 --   list_at s i     what the record at index i holds: a list, or none where the record is unused
 --   with_list s k o  the records s, that of slot k holding o
 --   key side k o    whether o is the list on a side at the offset k
+--   At s side k i l    the record of slot i holds l, the list on a side at the offset k
+--   Nowhere s side k   no record holds that list
 --   front_of side a b  which of two lists comes first where a goes to the outer side of b
 --   held cs m s     the lists of comments that the records s mean, where cs has the comments and m the links of all notes
 --   listed a b      the same of the notes a and of those of the records b that have a slot
 --
 -- Assumes nothing.
-use Rattle.std.specs.Prelude.{ℕ, zero, suc, ◌-◌, Bool, false, cond, ◌&&◌, List, [], ◌∷◌, map, length, take, Some, None, Option, ◌==◌, slice_index_or, slice_set}
+use Rattle.std.specs.Prelude.{◌≡◌, ℕ, zero, suc, ◌-◌, ◌<◌, Bool, true, false, cond, ◌&&◌, List, [], ◌∷◌, map, length, take, Some, None, Option, ◌==◌, slice_index_or, slice_set}
 use Rattle.comments.specs.declared.store.Side.{Side}
 use Rattle.comments.specs.declared.store.Side.TheVariants.{Leading, Trailing}
 use Rattle.comments.specs.Lists.{same, Lists}
-use Rattle.chain.specs.Chain.{room, link_at}
+use Rattle.chain.specs.Chain.{room, Slot, link_at}
 use Rattle.spliced.specs.declared.notes.Note.{Note}
 use Rattle.spliced.specs.declared.heads.NoteList.{NoteList}
 use Rattle.spliced.specs.declared.heads.Head.{Head}
@@ -33,7 +35,15 @@ with_list s k o = slice_set s (k - 1) (record { list = o; next = (slice_index_or
 
 abbrev pub key : Side → ℕ → Option NoteList → Bool
 key side k None = false
-key side k (Some l) = same side l.side && k == l.offset
+key side k (Some l) = same side l.spot.side && k == l.spot.offset
+
+pub record At (heads : List Head) (side : Side) (k slot : ℕ) (l : NoteList) : Type 0 where
+  pub slot_in : Slot (length heads) slot
+  pub holds : list_at heads (slot - 1) ≡ Some l
+  pub keyed : key side k (Some l) ≡ true
+
+abbrev pub Nowhere : List Head → Side → ℕ → Type 0
+Nowhere heads side k = (i : ℕ) → i < room (length heads) → key side k (list_at heads i) ≡ false
 
 abbrev pub front_of : Side → NoteList → NoteList → NoteList
 front_of Leading a b = a

@@ -11,7 +11,7 @@ use Rattle.spliced.specs.declared.store.Spliced.{Spliced}
 use Rattle.spliced.specs.Heads.{listed}
 
 abbrev pub lists_in : Spliced → Lists
-lists_in s = listed s.chains.notes.slots.now s.chains.heads.slots.now
+lists_in s = listed s.notes.slots.now s.heads.slots.now
 
 abbrev pub spare : Spliced → ℕ
-spare s = min (room (length s.chains.notes.slots.now)) (room (length s.chains.heads.slots.now)) - s.chains.held
+spare s = min (room (length s.notes.slots.now)) (room (length s.heads.slots.now)) - s.held

@@ -1,32 +1,23 @@
 // The records of lists: one for each list that is not empty, which says where the chain of its comments begins and ends.
 ghost use Rattle.std.specs.Prelude.{◌≡◌, ℕ, ◌-◌, ◌<◌, ◌≤◌, true, false, List, map, length, set, IfSome, Some, None, MatchOption};
 ghost use Rattle.chain.specs.Chain.{room, Slot, link_at, Chain, Off, slots_from, Beyond};
-ghost use Rattle.spliced.specs.Heads.{head_links, list_at, with_list, key};
+ghost use Rattle.spliced.specs.Heads.{head_links, list_at, with_list, key, At, Nowhere};
 ghost use Rattle.spliced.specs.Layout.{Idle};
 ghost use Rattle.std.proofs.Common.{refl};
 
 use chain::Link;
-use comments::Side;
+use comments::Spot;
 
-/// A list: on which side and at which offset it stands, and the slots of its first and its last comment.
-#[derive(Clone, Copy)]
+/// A list: where it stands, and the slots of its first and its last comment.
+#[derive(Clone, Copy, PartialEq, Eq, Debug)]
 pub struct NoteList {
-    pub side: Side,
-    pub offset: u32,
+    pub spot: Spot,
     pub first: u16,
     pub last: u16,
 }
 
-impl NoteList {
-    fn stands_at(&self, side: Side, offset: u32) -> bool
-        ensures { result ≡ key side offset (Some self.now) }
-    {
-        self.side == side && self.offset == offset
-    }
-}
-
 /// The record of a list, or an unused one; the link is for the unused.
-#[derive(Clone, Copy)]
+#[derive(Clone, Copy, PartialEq, Eq, Debug)]
 pub struct Head {
     list: Option<NoteList>,
     next: u16,
@@ -66,37 +57,36 @@ impl Link for Head {
 }
 
 /// Where a list was found.
-#[derive(Clone, Copy)]
+#[derive(Clone, Copy, PartialEq, Eq, Debug)]
 pub(crate) struct Found {
     pub(crate) head: u16,
     pub(crate) list: NoteList,
 }
 
-/// The record of the list on a side at an offset, where no record past `high` holds one.
-fn find_list(slots: &[Head], high: u16, side: Side, offset: u32) -> Option<Found>
+/// The record of the list at a spot, where no record past `high` holds one.
+fn find_list(slots: &[Head], high: u16, spot: Spot) -> Option<Found>
     requires { Idle slots.now high }
     ensures high { IfSome result (λ f. f.head ≤ high) }
-    ensures finds { MatchOption result
-        ((i : ℕ) → i < room (length slots.now) → key side offset (list_at slots.now i) ≡ false)
-        (λ f. Slot (length slots.now) f.head × (list_at slots.now (f.head - 1) ≡ Some f.list) × (key side offset (Some f.list) ≡ true)) }
+    ensures finds { MatchOption result (Nowhere slots.now spot.side spot.offset) (λ f. At slots.now spot.side spot.offset f.head f.list) }
 {
-    for i in 0..high {
-        if let Some(list) = slots[i as usize].list {
-            if list.stands_at(side, offset) {
-                return Some(Found { head: i + 1, list });
+    for (i, head) in slots[..usize::from(high)].iter().enumerate() {
+        if let Some(list) = head.list {
+            if list.spot == spot {
+                let head = i as u16 + 1;
+                return Some(Found { head, list });
             }
         }
     }
     None
 }
 
-/// Makes every record that has a slot an unused one.
+/// Makes every record an unused one.
 fn clear(slots: &mut [Head])
-    ensures unused { (i : ℕ) → i < room (length slots.old) → list_at slots.new i ≡ None }
-    ensures beyond { Beyond slots.old slots.new }
+    ensures unused { (i : ℕ) → list_at slots.new i ≡ None }
+    ensures length { length slots.new ≡ length slots.old }
 {
-    for i in 0..chain::last_slot(slots) {
-        slots[i as usize].list = None;
+    for head in slots.iter_mut() {
+        head.list = None;
     }
 }
 
@@ -132,6 +122,7 @@ pub(crate) struct Heads<'a> {
     pub(crate) slots: &'a mut [Head],
     pub(crate) free: u16,
     pub(crate) high: u16,
+    ghost idle: { Idle slots.now high },
 }
 
 impl<'a> Heads<'a> {
@@ -139,11 +130,11 @@ impl<'a> Heads<'a> {
     pub(crate) fn new(slots: &'a mut [Head]) -> Self
         ensures chain { Chain (head_links result.slots.now) result.free (slots_from 1 (room (length slots.old))) }
         ensures unused { (i : ℕ) → i < room (length slots.old) → list_at result.slots.now i ≡ None }
-        ensures idle { Idle result.slots.now result.high }
         ensures beyond { Beyond slots.old result.slots.now }
         ensures lender { result.slots.ghost_name ≡ slots.entry.ghost_name }
     {
-        clear(slots);
+        let last = usize::from(chain::last_slot(slots));
+        clear(&mut slots[..last]);
         let free = chain::make(slots);
         Heads {
             slots,
@@ -158,23 +149,18 @@ impl<'a> Heads<'a> {
         chain::last_slot(self.slots)
     }
 
-    /// The record of the list on a side at an offset.
-    pub(crate) fn find(&self, side: Side, offset: u32) -> Option<Found>
-        requires { Idle self.now.slots.now self.now.high }
+    /// The record of the list at a spot.
+    pub(crate) fn find(&self, spot: Spot) -> Option<Found>
         ensures high { IfSome result (λ f. f.head ≤ self.now.high) }
-        ensures finds { MatchOption result
-            ((i : ℕ) → i < room (length self.now.slots.now) → key side offset (list_at self.now.slots.now i) ≡ false)
-            (λ f. Slot (length self.now.slots.now) f.head × (list_at self.now.slots.now (f.head - 1) ≡ Some f.list) × (key side offset (Some f.list) ≡ true)) }
+        ensures finds { MatchOption result (Nowhere self.now.slots.now spot.side spot.offset) (λ f. At self.now.slots.now spot.side spot.offset f.head f.list) }
     {
         let high = self.high;
-        find_list(self.slots, high, side, offset)
+        find_list(self.slots, high, spot)
     }
 
     /// Takes an unused record for a list.
     pub(crate) fn draw(&mut self, list: NoteList)
         requires slot { Slot (length self.old.slots.now) self.old.free }
-        requires idle { Idle self.old.slots.now self.old.high }
-        ensures idle { Idle self.new.slots.now self.new.high }
         ensures free { self.new.free ≡ link_at (head_links self.old.slots.now) self.old.free }
         ensures records { self.new.slots.now ≡ with_list self.old.slots.now self.old.free (Some list) }
         ensures lender { self.new.slots.ghost_name ≡ self.old.slots.ghost_name }
@@ -187,8 +173,7 @@ impl<'a> Heads<'a> {
     /// Lets a record hold another list.
     pub(crate) fn hold(&mut self, head: u16, list: NoteList)
         requires slot { Slot (length self.old.slots.now) head }
-        requires idle { (Idle self.old.slots.now self.old.high) × (head ≤ self.old.high) }
-        ensures idle { Idle self.new.slots.now self.new.high }
+        requires high { head ≤ self.old.high }
         ensures high { self.new.high ≡ self.old.high }
         ensures free { self.new.free ≡ self.old.free }
         ensures records { self.new.slots.now ≡ with_list self.old.slots.now head (Some list) }
@@ -201,8 +186,6 @@ impl<'a> Heads<'a> {
     pub(crate) fn give_back(&mut self, head: u16)
         requires inside { Slot (length self.old.slots.now) head }
         requires off { Off (head_links self.old.slots.now) self.old.free head }
-        requires idle { Idle self.old.slots.now self.old.high }
-        ensures idle { Idle self.new.slots.now self.new.high }
         ensures free { self.new.free ≡ head }
         ensures records { self.new.slots.now ≡ set self.old.slots.now (head - 1) (record { list = None; next = self.old.free }) }
         ensures lender { self.new.slots.ghost_name ≡ self.old.slots.ghost_name }

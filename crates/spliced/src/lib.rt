@@ -1,7 +1,6 @@
 // A comment store of spliced chains: each list is a chain of records, and a move joins two chains by one link.
 #![tactic(auto)]
 
-mod chains;
 mod heads;
 mod notes;
 mod store;

@@ -8,7 +8,7 @@ ghost use Rattle.std.proofs.Common.{refl};
 use chain::Link;
 
 /// A comment, and the slot of the next one in its list.
-#[derive(Clone, Copy)]
+#[derive(Clone, Copy, PartialEq, Eq, Debug)]
 pub struct Note {
     comment: u32,
     next: u16,
@@ -123,26 +123,13 @@ fn take_note(slots: &mut [Note], first: u16, comment: u32) -> u16
     free
 }
 
-/// The comment of a slot's record; none where the number is no slot.
-fn comment_of(slots: &[Note], slot: u16) -> Option<u32>
-    ensures { MatchOption result (Slot (length slots.now) slot → ⊥) (λ c. Slot (length slots.now) slot × (c ≡ comment_at (comments slots.now) slot)) }
-{
-    if slot == 0 || slot > chain::last_slot(slots) {
-        return None;
-    }
-    Some(slots[slot as usize - 1].comment)
-}
-
 /// The comment at a rank of the list that begins at `first`; none past its end.
 fn comment_at(slots: &[Note], first: u16, rank: usize) -> Option<u32>
     ensures { (ks : List ℕ) → Chain (links slots.now) first ks → result ≡ slice_get (map (comment_at (comments slots.now)) ks) rank }
 {
     let mut at = first;
     for _ in 0..rank {
-        let Some(next) = chain::next_of(slots, at) else {
-            return None;
-        };
-        at = next;
+        at = chain::next_of(slots, at)?;
     }
-    comment_of(slots, at)
+    Some(chain::record_at(slots, at)?.comment)
 }

@@ -1,19 +1,18 @@
 // The comment store of spliced chains, over the records that its caller lends.
-ghost use Rattle.std.specs.Prelude.{◌≡◌, ℕ, ◌<◌, ◌≤◌, length};
-ghost use Rattle.spliced.specs.Layout.{Laid, used};
-ghost use Rattle.spliced.specs.Heads.{list_at};
-ghost use Rattle.chain.specs.Chain.{room};
+ghost use Rattle.spliced.specs.Layout.{Laid};
 
-use crate::chains::Chains;
+use crate::heads::Heads;
+use crate::notes::Notes;
 
 mod calls;
 mod meaning;
 
-/// A store, with all its records: each is unused, or in the one list that it belongs to.
+/// A store: the notes, the heads of the lists that are not empty, and how many comments are held. Each record is unused, or in
+/// the one list that it belongs to.
 #[derive(Drop)]
 pub struct Spliced<'a> {
-    chains: Chains<'a>,
-    ghost high: { chains.heads.high ≤ room (length chains.heads.slots.now) },
-    ghost idle: { (i : ℕ) → chains.heads.high ≤ i → i < room (length chains.heads.slots.now) → used (list_at chains.heads.slots.now i) ≡ 0 },
-    ghost laid: { ∥ Laid chains.notes.slots.now chains.heads.slots.now chains.notes.free chains.heads.free chains.held ∥₁ },
+    notes: Notes<'a>,
+    heads: Heads<'a>,
+    held: u16,
+    ghost laid: { ∥ Laid notes.slots.now heads.slots.now notes.free heads.free held ∥₁ },
 }

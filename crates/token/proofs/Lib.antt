@@ -1,2 +1,3 @@
 -- Lemmas that the proofs of this crate share.
 pub mod Same
+pub mod Derived

@@ -4,7 +4,7 @@ ghost use Rattle.std.specs.Prelude.{◌≡◌, eqb};
 ghost use Rattle.token.specs.Same.{operator_rank, assign_rank};
 
 /// A sign that computes from one operand or two. `+` and `-` do either: the token is the same.
-#[derive(Clone, Copy)]
+#[derive(Clone, Copy, PartialEq, Eq, Debug)]
 pub enum Operator {
     /// `!`
     Not,
@@ -67,13 +67,13 @@ impl Operator {
     pub fn same(self, other: Operator) -> bool
         ensures { result ≡ eqb (operator_rank self) (operator_rank other) }
     {
-        self as u8 == other as u8
+        self == other
     }
 }
 
 /// A sign that assigns: `=`, or a binary operator with `=` behind it. Comparisons have no such form, so this is an
 /// enum of its own and not an `Operator` with a flag: `====` cannot be written.
-#[derive(Clone, Copy)]
+#[derive(Clone, Copy, PartialEq, Eq, Debug)]
 pub enum AssignOperator {
     /// `=`
     Assign,
@@ -114,6 +114,6 @@ impl AssignOperator {
     pub fn same(self, other: AssignOperator) -> bool
         ensures { result ≡ eqb (assign_rank self) (assign_rank other) }
     {
-        self as u8 == other as u8
+        self == other
     }
 }

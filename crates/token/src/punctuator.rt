@@ -5,7 +5,7 @@ ghost use Rattle.token.specs.Same.{punctuator_rank};
 
 /// A sign that is no operator: brackets, separators, and the signs of a conditional, of an optional chain and of an
 /// arrow function.
-#[derive(Clone, Copy)]
+#[derive(Clone, Copy, PartialEq, Eq, Debug)]
 pub enum Punctuator {
     /// `(`
     OpenParen,
@@ -40,6 +40,6 @@ impl Punctuator {
     pub fn same(self, other: Punctuator) -> bool
         ensures { result ≡ eqb (punctuator_rank self) (punctuator_rank other) }
     {
-        self as u8 == other as u8
+        self == other
     }
 }

@@ -5,7 +5,7 @@ ghost use Rattle.token.specs.Same.{word_rank};
 
 /// A reserved word. `in` and `instanceof` stand between operands as operators do, and `typeof`, `void`, `delete`
 /// before one, but they are words all the same: only the spelling decides here.
-#[derive(Clone, Copy)]
+#[derive(Clone, Copy, PartialEq, Eq, Debug)]
 pub enum Word {
     /// `null`
     Null,
@@ -52,6 +52,6 @@ impl Word {
     pub fn same(self, other: Word) -> bool
         ensures { result ≡ eqb (word_rank self) (word_rank other) }
     {
-        self as u8 == other as u8
+        self == other
     }
 }

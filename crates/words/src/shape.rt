@@ -7,12 +7,11 @@ pub fn code_of_word(word: &str) -> Option<Code> {
     if let Some(code) = code_of(word) {
         return Some(code);
     }
-    let bytes = word.as_bytes();
-    if is_name(bytes) {
+    if is_name(word) {
         Some(Code::Name)
-    } else if is_number(bytes) {
+    } else if is_number(word) {
         Some(Code::Number)
-    } else if is_string(bytes) {
+    } else if is_string(word) {
         Some(Code::String)
     } else {
         None
@@ -20,48 +19,30 @@ pub fn code_of_word(word: &str) -> Option<Code> {
 }
 
 /// Letters, digits, `_` and `$`, no digit first.
-fn is_name(bytes: &[u8]) -> bool {
-    for b in bytes {
-        if !matches!(*b, b'a'..=b'z' | b'A'..=b'Z' | b'0'..=b'9' | b'_' | b'$') {
-            return false;
-        }
-    }
-    match bytes {
-        [] => false,
-        [first, ..] => !matches!(*first, b'0'..=b'9'),
-    }
+fn is_name(word: &str) -> bool {
+    let bytes = word.as_bytes();
+    bytes.first().is_some_and(|b| !b.is_ascii_digit())
+        && bytes
+            .iter()
+            .all(|b| b.is_ascii_alphanumeric() || matches!(*b, b'_' | b'$'))
 }
 
 /// Digits, and at most one point between them.
-fn is_number(bytes: &[u8]) -> bool {
-    let mut points = 0u32;
-    for b in bytes {
-        match *b {
-            b'0'..=b'9' => {}
-            b'.' => points = points.saturating_add(1),
-            _ => return false,
-        }
-    }
-    match bytes {
-        [] => false,
-        [first, .., last] => points < 2 && *first != b'.' && *last != b'.',
-        [only] => *only != b'.',
+fn is_number(word: &str) -> bool {
+    match word.split_once('.') {
+        Some((whole, part)) => is_digits(whole) && is_digits(part),
+        None => is_digits(word),
     }
 }
 
+fn is_digits(text: &str) -> bool {
+    !text.is_empty() && text.as_bytes().iter().all(|b| b.is_ascii_digit())
+}
+
 /// Double quotes round printable characters that are neither quotes nor backslashes.
-fn is_string(bytes: &[u8]) -> bool {
-    let mut quotes = 0u32;
-    for b in bytes {
-        match *b {
-            b'"' => quotes = quotes.saturating_add(1),
-            b'\\' => return false,
-            32..=126 => {}
-            _ => return false,
-        }
-    }
-    match bytes {
-        [first, .., last] => quotes == 2 && *first == b'"' && *last == b'"',
-        _ => false,
-    }
+fn is_string(word: &str) -> bool {
+    word.strip_prefix('"')
+        .and_then(|rest| rest.strip_suffix('"'))
+        .is_some_and(|inside| inside.as_bytes().iter().all(|b| matches!(*b, b' '..=b'~')
+            && !matches!(*b, b'"' | b'\\')))
 }

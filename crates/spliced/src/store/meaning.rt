@@ -1,42 +1,102 @@
-// What the store means, and its moves and questions.
-ghost use Rattle.std.specs.Prelude.{◌≡◌, ℕ};
+// The lists of comments as chains of notes: how they grow, how they are joined, and what they hold.
+ghost use Rattle.std.specs.Prelude.{◌≡◌, ℕ, OnErr};
 ghost use Rattle.chain.specs.Chain.{Beyond};
 ghost use Rattle.comments.specs.declared.store.Side.{Side};
-ghost use Rattle.comments.specs.declared.store.Side.TheVariants.{Leading, Trailing};
+ghost use Rattle.comments.specs.Filling.{Fills};
 ghost use Rattle.comments.specs.Lists.{shifted};
+ghost use Rattle.spliced.specs.Heads.{front_of};
 ghost use Rattle.spliced.specs.Store.{lists_in, spare};
 
 use super::Spliced;
-use comments::{Side, Store};
+use crate::heads::NoteList;
+use comments::{Side, Spot, Store};
+use refusal::Refusal;
 
 impl<'a> Store for Spliced<'a> {
     ghost lists = { lists_in };
 
     ghost vacant = { spare };
 
-    fn move_leading(&mut self, from: u32, to: u32)
-        ensures moved { (side : Side) (k : ℕ) → lists_in self.new side k ≡ shifted Leading (lists_in self.old) from to side k }
-        ensures vacant { spare self.new ≡ spare self.old }
-        ensures beyond { (Beyond self.old.chains.notes.slots.now self.new.chains.notes.slots.now) × (Beyond self.old.chains.heads.slots.now self.new.chains.heads.slots.now) }
-        ensures lender { (self.new.chains.notes.slots.ghost_name ≡ self.old.chains.notes.slots.ghost_name) × (self.new.chains.heads.slots.ghost_name ≡ self.old.chains.heads.slots.ghost_name) }
+    fn add(&mut self, spot: Spot, comment: u32) -> Result<(), Refusal>
+        ensures fills { Fills (lists_in self.old) (lists_in self.new) (spare self.old) (spare self.new) spot.side spot.offset comment result }
+        ensures same { OnErr result (self.new ≡ self.old) }
+        ensures beyond { (Beyond self.old.notes.slots.now self.new.notes.slots.now) × (Beyond self.old.heads.slots.now self.new.heads.slots.now) }
+        ensures lender { (self.new.notes.slots.ghost_name ≡ self.old.notes.slots.ghost_name) × (self.new.heads.slots.ghost_name ≡ self.old.heads.slots.ghost_name) }
     {
-        self.chains.splice(Side::Leading, from, to);
+        if self.spare() == 0 {
+            return Err(Refusal::TooFewRecords { needed: 1 });
+        }
+        self.held += 1;
+        let note = self.notes.draw(comment);
+        match self.heads.find(spot) {
+            Some(found) => {
+                self.notes.join(found.list.last, note);
+                let list = NoteList {
+                    last: note,
+                    ..found.list
+                };
+                self.heads.hold(found.head, list);
+            }
+            None => self.heads.draw(NoteList {
+                spot,
+                first: note,
+                last: note,
+            }),
+        }
+        Ok(())
     }
 
-    fn move_trailing(&mut self, from: u32, to: u32)
-        ensures moved { (side : Side) (k : ℕ) → lists_in self.new side k ≡ shifted Trailing (lists_in self.old) from to side k }
+    fn move_list(&mut self, side: Side, from: u32, to: u32)
+        ensures moved { (at : Side) (k : ℕ) → lists_in self.new at k ≡ shifted side (lists_in self.old) from to at k }
         ensures vacant { spare self.new ≡ spare self.old }
-        ensures beyond { (Beyond self.old.chains.notes.slots.now self.new.chains.notes.slots.now) × (Beyond self.old.chains.heads.slots.now self.new.chains.heads.slots.now) }
-        ensures lender { (self.new.chains.notes.slots.ghost_name ≡ self.old.chains.notes.slots.ghost_name) × (self.new.chains.heads.slots.ghost_name ≡ self.old.chains.heads.slots.ghost_name) }
+        ensures beyond { (Beyond self.old.notes.slots.now self.new.notes.slots.now) × (Beyond self.old.heads.slots.now self.new.heads.slots.now) }
+        ensures lender { (self.new.notes.slots.ghost_name ≡ self.old.notes.slots.ghost_name) × (self.new.heads.slots.ghost_name ≡ self.old.heads.slots.ghost_name) }
     {
-        self.chains.splice(Side::Trailing, from, to);
+        if from == to {
+            return;
+        }
+        let Some(source) = self.heads.find(side.at(from)) else {
+            return;
+        };
+        let Some(target) = self.heads.find(side.at(to)) else {
+            let list = NoteList {
+                spot: side.at(to),
+                ..source.list
+            };
+            self.heads.hold(source.head, list);
+            return;
+        };
+        let front = outer(side, source.list, target.list);
+        let back = outer(side, target.list, source.list);
+        self.notes.join(front.last, back.first);
+        let list = NoteList {
+            first: front.first,
+            last: back.last,
+            ..target.list
+        };
+        self.heads.hold(target.head, list);
+        self.heads.give_back(source.head);
     }
 
-    fn count(&self, side: Side, offset: u32) -> usize {
-        self.chains.count(side, offset)
+    fn count(&self, spot: Spot) -> usize {
+        match self.heads.find(spot) {
+            Some(found) => self.notes.count(found.list.first),
+            None => 0,
+        }
     }
 
-    fn comment(&self, side: Side, offset: u32, rank: usize) -> Option<u32> {
-        self.chains.comment(side, offset, rank)
+    fn comment(&self, spot: Spot, rank: usize) -> Option<u32> {
+        let found = self.heads.find(spot)?;
+        self.notes.comment(found.list.first, rank)
+    }
+}
+
+/// The one of two lists that comes first where `source` goes to the outer side of `target`.
+fn outer(side: Side, source: NoteList, target: NoteList) -> NoteList
+    ensures { result ≡ front_of side source target }
+{
+    match side {
+        Side::Leading => source,
+        Side::Trailing => target,
     }
 }

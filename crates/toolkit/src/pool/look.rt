@@ -14,9 +14,6 @@ impl<'a> Pool<'a> {
             (Slot (length (held self.now).slots) slot → ⊥)
             (λ c. Slot (length (held self.now).slots) slot × (c ≡ at (held self.now).slots slot)) }
     {
-        if slot == 0 || slot > chain::last_slot(self.store.slots) {
-            return None;
-        }
-        Some(records::look(self.store.slots, slot))
+        chain::record_at(self.store.slots, slot).copied()
     }
 }

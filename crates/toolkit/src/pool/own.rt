@@ -12,12 +12,6 @@ impl<'a> Pool<'a> {
         ensures yes { result ≡ true → Valid (held self.now) key }
         ensures no { result ≡ false → Valid (held self.now) key → ⊥ }
     {
-        if key.pool != self.number {
-            return false;
-        }
-        match self.store.mark_of(key.root) {
-            Some(mark) => mark.number() == key.mark.number(),
-            None => false,
-        }
+        key.pool == self.number && self.store.mark_of(key.root) == Some(key.mark)
     }
 }

@@ -1,12 +1,9 @@
-use Rattle.std.proofs.Common.{length, sym, ◌∙◌, arith}
-use Rattle.chain.specs.Chain.{Slot}
+use Rattle.std.proofs.Common.{sym, ◌∙◌}
 use Rattle.chain.proofs.Records.{link_read}
 use Rattle.chain.proofs.free.next_of.Goals as goal
 
 pub returns : goal.returns
 returns g c =
-    let s : Slot (length c.args.slots.now) c.args.slot = (omega arith, omega (arith, c.last_slot.ensures)) in (
-      s,
-      c.next.ensures
-          ∙ sym (link_read g.T.Link.link c.args.slots.now c.args.slot c.index-slots-slot.result s c.index-slots-slot.is),
-    )
+    let p = c.in_ok-record_at.ensures in
+    let r = c.in_ok-record_at.field-0.now in
+    (p.0, c.next.ensures ∙ sym (link_read g.T.Link.link c.args.slots.now c.args.slot r p.0 (p.1 r)))

@@ -12,13 +12,13 @@ nowhere = record { from = record { lo = 0; hi = 0 }; to = record { lo = 0; hi = 
 
 pub loop-m-preserved : goal.loop-m-preserved
 loop-m-preserved g c = (
-  both (g.S.Store.lists c.loop-m.store) (g.S.Store.lists c.move_leading.new.self) (g.S.Store.lists c.move_trailing.new.self) (g.S.Store.lists c.args.store.now)
+  both (g.S.Store.lists c.loop-m.store) (g.S.Store.lists c.move_list.new.self) (g.S.Store.lists c.move_list-in-loop-m.new.self) (g.S.Store.lists c.args.store.now)
       c.args.moves.now c.loop-m.m-index (get_or c.args.moves.now c.loop-m.m-index nowhere)
       c.loop-m.invariant.0
       (take_more c.args.moves.now c.loop-m.m-index nowhere c.loop-m-test.true)
-      c.move_leading.ensures.moved
-      c.move_trailing.ensures.moved,
-  c.move_trailing.ensures.vacant ∙ c.move_leading.ensures.vacant ∙ c.loop-m.invariant.1,
+      c.move_list.ensures.moved
+      c.move_list-in-loop-m.ensures.moved,
+  c.move_list-in-loop-m.ensures.vacant ∙ c.move_list.ensures.vacant ∙ c.loop-m.invariant.1,
 )
 
 pub returns : goal.returns

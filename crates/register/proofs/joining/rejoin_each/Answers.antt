@@ -1,11 +1,10 @@
 use Rattle.std.proofs.Common.{◌≡◌, ℕ, ◌+◌, ◌<◌, true, length, get_or, sym, subst, arith}
 use Rattle.std.proofs.ByRecursion.{All-get_or}
-use Rattle.comments.specs.declared.store.Side.TheVariants.{Leading}
 use Rattle.register.specs.declared.entry.Entry.{Entry}
 use Rattle.register.specs.declared.joining.Joining.{Joining}
 use Rattle.register.specs.Listing.{here}
 use Rattle.register.specs.Joins.{moved_to}
-use Rattle.register.proofs.Passes.{not_reached, written_more, written_all}
+use Rattle.register.proofs.Passes.{blank, not_reached, written_more, written_all}
 use Rattle.register.proofs.joining.rejoin_each.Goals as goal
 
 abbrev by : Joining → Entry → Entry
@@ -13,10 +12,6 @@ by j = moved_to j.side j.first j.second j.to j.ahead
 
 abbrev Fitting : Joining → ℕ → Entry → Type 0
 Fitting j limit e = here j.side j.second e ≡ true → e.rank + j.ahead < limit
-
--- what a pass reads where there is no entry
-abbrev blank : Entry
-blank = record { comment = 0; side = Leading; offset = 0; rank = 0 }
 
 pub rejoined-requires : goal.rejoined-requires
 rejoined-requires c second =

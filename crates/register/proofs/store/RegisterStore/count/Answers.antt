@@ -6,4 +6,4 @@ use Rattle.register.proofs.store.RegisterStore.count.Goals as goal
 
 pub returns : goal.returns
 returns c =
-    record { value = c.count.ensures ∙ sym (length-map-range_with_len (comment_at (entries_of c.args.self.now.entries) c.args.side c.args.offset) 0 _) }
+    record { value = c.count.ensures ∙ sym (length-map-range_with_len (comment_at (entries_of c.args.self.now.entries) c.args.spot.side c.args.spot.offset) 0 _) }

@@ -3,24 +3,21 @@ use Rattle.register.specs.declared.entry.Entry.{Entry}
 use Rattle.register.specs.Listing.{listing, Sound}
 use Rattle.register.specs.Held.{entries_of}
 use Rattle.register.proofs.Pushed.{sound_push, listing_push, pushed_entries, pushed_others, pushed_length}
-use Rattle.register.proofs.records.Register.add.Goals as goal
+use Rattle.register.proofs.store.RegisterStore.add.Goals as goal
 
 pub invariant_of-self : goal.invariant_of-self
 invariant_of-self c =
-    let e : Entry = record { comment = c.args.comment; side = c.args.side; offset = c.args.offset; rank = c.count-rank.result } in
+    let e : Entry = record { comment = c.args.comment; spot = c.args.spot; rank = c.count-rank.result } in
     let s = c.args.self.now.entries in
     let t = c.push.new.self in
     let room : s.used < length s.slots.now = omega (arith, c.spare.ensures) in
     let long = pushed_length s.slots.now t.slots.now s.used e c.push.ensures.slots in
     let es = pushed_entries s.slots.now t.slots.now s.used t.used e room c.push.ensures.used c.push.ensures.slots in
-    record {
-      inside = omega (arith, c.push.ensures.used);
-      sound = subst Sound (sym es) (sound_push (entries_of s) e c.args.self.now.sound c.count-rank.ensures);
-    }
+    record { sound = subst Sound (sym es) (sound_push (entries_of s) e c.args.self.now.sound c.count-rank.ensures) }
 
 pub returns : goal.returns
 returns c =
-    let e : Entry = record { comment = c.args.comment; side = c.args.side; offset = c.args.offset; rank = c.count-rank.result } in
+    let e : Entry = record { comment = c.args.comment; spot = c.args.spot; rank = c.count-rank.result } in
     let s = c.args.self.now.entries in
     let t = c.push.new.self in
     let room : s.used < length s.slots.now = omega (arith, c.spare.ensures) in
