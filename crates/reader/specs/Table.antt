@@ -4,6 +4,7 @@
 --   goal_of mode_of do_of     the goal, the mode, and what is left to do, that a value of the code stands for
 --   to_do         the next thing to do
 --   turn_of       what a token does behind an expression
+--   linked        the form of a member or a call
 --
 -- Assumes nothing.
 use Rattle.std.specs.Prelude.{◌≡◌, Bool, true, false, T, List, [], ◌∷◌, Some, None, Option}
@@ -14,6 +15,7 @@ use Rattle.kinds.specs.declared.form.Form.TheVariants as form
 use Rattle.kinds.specs.declared.form.Key.TheVariants as key
 use Rattle.kinds.specs.declared.form.Own.TheVariants as own
 use Rattle.kinds.specs.declared.form.Arguments.TheVariants as arguments
+use Rattle.kinds.specs.declared.form.Link.{Link}
 use Rattle.kinds.specs.declared.form.Link.TheVariants as link
 use Rattle.kinds.specs.declared.form.Entry.TheVariants as entry
 use Rattle.kinds.specs.declared.level.Slot.TheVariants as slot
@@ -199,6 +201,13 @@ turn_of turn.Calls = parser.calls
 turn_of turn.Links = parser.links
 turn_of turn.Ends = parser.ends
 turn_of turn.Cannot = parser.cannot
+
+-- The form of a member or a call, as a tail of an optional chain or outside of one.
+abbrev pub linked : Link → Bool → Form
+linked l true = form.Chain l entry.Tail
+linked link.Name false = form.Member key.Fixed
+linked link.Key false = form.Member key.Computed
+linked link.Call false = form.Call
 
 -- What is left to do behind an expression of any standing that is, or is not, a link of an optional chain.
 abbrev pub Turns : parser.After → Bool → Do → Type 0

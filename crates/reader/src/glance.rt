@@ -15,17 +15,19 @@ pub fn peek(ahead: &[Token]) -> Option<Code>
 }
 
 /// Whether the next token is `code`.
+#[tactic(auto, using(token::proofs::Derived::same_derived))]
 pub fn sees(ahead: &[Token], code: Code) -> bool
     ensures { result ≡ starts code ahead.now }
 {
-    peek(ahead).is_some_and(|found| found.same(code))
+    peek(ahead).is_some_and(|found| found == code)
 }
 
 /// Whether the statements end here: the tokens do, or there is a `}`.
+#[tactic(auto, using(token::proofs::Derived::same_derived))]
 pub fn at_stop(ahead: &[Token]) -> bool
     ensures { result ≡ at_stop ahead.now }
 {
-    peek(ahead).is_none_or(|code| code.same(Code::Punctuator(Punctuator::CloseBrace)))
+    peek(ahead).is_none_or(|code| code == Code::Punctuator(Punctuator::CloseBrace))
 }
 
 /// Whether a token of this code can begin an expression.
@@ -73,6 +75,7 @@ pub fn opens_at(ahead: &[Token]) -> bool
 }
 
 /// Whether `=>` follows the `)` that closes the parenthesis whose inside is ahead.
+#[tactic(auto, using(token::proofs::Derived::same_derived))]
 pub fn arrow_behind(ahead: &[Token]) -> bool
     ensures { result ≡ starts arrow (skip 0 ahead.now) }
 {
@@ -80,9 +83,9 @@ pub fn arrow_behind(ahead: &[Token]) -> bool
     let mut rest = ahead;
     while let Some((token, behind)) = rest.split_first() {
         rest = behind;
-        if token.code.same(Code::Punctuator(Punctuator::OpenParen)) {
+        if token.code == Code::Punctuator(Punctuator::OpenParen) {
             open += 1;
-        } else if token.code.same(Code::Punctuator(Punctuator::CloseParen)) {
+        } else if token.code == Code::Punctuator(Punctuator::CloseParen) {
             if open == 0 {
                 return sees(behind, Code::Punctuator(Punctuator::Arrow));
             }

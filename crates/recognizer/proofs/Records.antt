@@ -14,7 +14,7 @@ use Rattle.grammar.specs.Parser.{Goal, Mode, mode, Do, fail, fin, eat, sub, sett
 use Rattle.reader.specs.Reads.{own, Bad, NotParsed, graft}
 use Rattle.recognizer.specs.Reads.{Joined, Completed, Behind, Shape, Holds, Shaped, Parsed, Made, NotMade, Carried}
 use Rattle.reader.specs.Rows.{Nested, Pushed}
-use Rattle.reader.specs.declared.sink.Row.{Row}
+use Rattle.records.specs.declared.build.Children.{Children}
 use Rattle.recognizer.specs.declared.found.Found.{Found}
 use Rattle.recognizer.specs.declared.found.Parts.{Parts}
 use Rattle.reader.specs.declared.unread.Unread.{Unread}
@@ -131,7 +131,7 @@ goods_last (u ▸ us) t = ap (λ (b : Bool). good u && b) (goods_last us t) ∙ 
 holds_same : (us : Forest) (p q : Parts) → q.children ≡ p.children → q.good ≡ p.good → q.size ≡ p.size → q.depth ≡ p.depth → Holds us p → Holds us q
 holds_same us p q a b d e h = record { children = subst (λ (k : Summary). Sums (attrs us) k) (sym a) h.children; fit = h.fit ∙ sym b; records = h.records ∙ sym d; nests = h.nests ∙ sym e }
 
-holds_join : (us : Forest) (t : Tree) (p q : Parts) (f : Found) (r : Row) → Holds us p → Shape t f → Joined p f r q → Holds (us ⊕ (t ▸ nil)) q
+holds_join : (us : Forest) (t : Tree) (p q : Parts) (f : Found) (r : Children) → Holds us p → Shape t f → Joined p f r q → Holds (us ⊕ (t ▸ nil)) q
 holds_join us t p q f r h s j =
     record {
       children = subst (λ (cs : List Attr). Sums cs q.children) (sym (attrs_last us t ∙ ap (λ (a : Attr). attrs us ++ (a ∷ [])) s.attributes)) (j.children (attrs us) h.children);
@@ -153,7 +153,7 @@ bad_le : (e : Unread) (i d b : ℕ) → Bad e i d → d ≤ b → Bad e i b
 bad_le NoDerivation i d b h le = h
 bad_le TooDeep i d b h le = omega arith
 
-module _ {K : Type 0} (R : K → K → Row → Forest → Type 0) (b : Bool) where
+module _ {K : Type 0} (R : K → K → Children → Forest → Type 0) (b : Bool) where
   pub carried_none : (e0 : K) (s : Do) (p : Parts) → p.depth ≤ p.size → Carried b s p R e0 e0 s p
   carried_none e0 s p n = record { rows = λ z ws h. subst (λ (us : Forest). R e0 z p.row us) (sym (join_nil ws)) h; few = omega arith; fewer = omega arith; nests = n; lo = refl; run = (nil, λ ws h. subst (λ (us : Forest). Holds us p) (sym (join_nil ws)) h, (0, λ m le. (m, omega arith, graft_nil (perform m b s p.hi p.ahead.now)))) }
 
@@ -166,7 +166,7 @@ module _ {K : Type 0} (R : K → K → Row → Forest → Type 0) (b : Bool) whe
           few = omega (arith, c.few, x.records, ap length v, own_one s);
           fewer = omega (arith, c.fewer, x.records, ap length v);
           nests = omega (arith, c.nests, x.records, x.nests);
-          rows = λ z ws hw. subst (λ (r : Row). R m0 z r (ws ⊕ us)) (sym x.row) (c.rows z ws hw);
+          rows = λ z ws hw. subst (λ (r : Children). R m0 z r (ws ⊕ us)) (sym x.row) (c.rows z ws hw);
           lo = x.lo ∙ c.lo;
           run = (
             us,
@@ -175,7 +175,7 @@ module _ {K : Type 0} (R : K → K → Row → Forest → Type 0) (b : Bool) whe
           );
         }
 
-    pub carried_read : (x1 x2 : K) (d : Mode) (g : Goal) (s2 : Do) (f : Found) (r2 : Row) (q : Parts) → settle s p.ahead.now ≡ sub d g s2 → Parsed p.ahead.now (mode d b) g R m0 x1 f → Pushed R x1 x2 p.row f.slot r2 → Joined p f r2 q → Carried b s0 p0 R e0 x2 s2 q
+    pub carried_read : (x1 x2 : K) (d : Mode) (g : Goal) (s2 : Do) (f : Found) (r2 : Children) (q : Parts) → settle s p.ahead.now ≡ sub d g s2 → Parsed p.ahead.now (mode d b) g R m0 x1 f → Pushed R x1 x2 p.row f.slot r2 → Joined p f r2 q → Carried b s0 p0 R e0 x2 s2 q
     carried_read x1 x2 d g s2 f r2 q e x pu j =
         let (us, h, (k0, w)) = c.run in
         let (t, sh, (m1, r), sk) = x.tree in
@@ -184,7 +184,7 @@ module _ {K : Type 0} (R : K → K → Row → Forest → Type 0) (b : Bool) whe
           few = omega (arith, c.few, x.few, j.records, ap length j.ahead, big);
           fewer = omega (arith, c.fewer, x.few, j.records, ap length j.ahead);
           nests = omega (arith, c.nests, x.nests, j.records, j.nests);
-          rows = λ z ws hw. subst (λ (r : Row). R x2 z r (ws ⊕ (us ⊕ (t ▸ nil)))) (sym j.row) (subst (λ (vs : Forest). R x2 z r2 vs) (join_assoc ws us (t ▸ nil)) (pu.at z m0 (ws ⊕ us) t (c.rows z ws hw) sk));
+          rows = λ z ws hw. subst (λ (r : Children). R x2 z r (ws ⊕ (us ⊕ (t ▸ nil)))) (sym j.row) (subst (λ (vs : Forest). R x2 z r2 vs) (join_assoc ws us (t ▸ nil)) (pu.at z m0 (ws ⊕ us) t (c.rows z ws hw) sk));
           lo = j.lo ∙ c.lo;
           run = (
             us ⊕ (t ▸ nil),
@@ -202,7 +202,7 @@ module _ {K : Type 0} (R : K → K → Row → Forest → Type 0) (b : Bool) whe
           );
         }
 
-    pub made : (x1 : K) (g : Form) (n1 : ℕ) (f : Found) → settle s p.ahead.now ≡ fin g → Completed p g n1 f → Nested R m0 x1 g p.row p.lo p.hi n1 → Made b s0 p0 R e0 x1 f
+    pub made : (x1 : K) (g : Form) (n1 : ℕ) (f : Found) → settle s p.ahead.now ≡ fin g → Completed p g n1 f → Nested R m0 x1 (record { form = g; lo = p.lo; hi = p.hi }) p.row n1 → Made b s0 p0 R e0 x1 f
     made x1 g n1 f e x ne =
         let (us, h, (k0, w)) = c.run in
         let (n, l, y) = w (suc k0) (omega arith) in

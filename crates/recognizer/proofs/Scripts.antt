@@ -28,7 +28,7 @@ use Rattle.reader.proofs.Fuel.{raise_p, bind_inv, some_one}
 use Rattle.reader.proofs.Width.{width, depth_size, depths_sizes}
 use Rattle.recognizer.proofs.Trees.{shape_node, holds_nil, row_at}
 use Rattle.reader.specs.Rows.{single}
-use Rattle.reader.specs.declared.sink.Row.{Row}
+use Rattle.records.specs.declared.build.Children.{Children}
 
 -- The reading of a script is what the grammar's reader finds.
 cond_some : {A : Type 0} (b : Bool) (x y : A) → cond b (some x) none ≡ some y → T b × (x ≡ y)
@@ -87,7 +87,7 @@ shallow ts u d =
     let w : depth (begun ts y) ≤ 1 + length ts = omega (arith, depth_begun ts y, depths_sizes y.kids, width m true (stms (fin form.Script)) 0 ts y tt h1) in
     subst (λ (t : Tree). depth t ≤ 1 + length ts) h2 w
 
-module _ (ts : List Token) (r0 : Row) (p : Parts) (st : Started ts r0 p) where
+module _ (ts : List Token) (r0 : Children) (p : Parts) (st : Started ts r0 p) where
   run_at : (m : ℕ) (y : Ran) → perform m true (stms (fin form.Script)) 0 ts ≡ some y → perform m true (stms (fin form.Script)) p.hi p.ahead.now ≡ some y
   run_at m y h = rw (st.hi, st.ahead) h
 
@@ -114,7 +114,7 @@ module _ (ts : List Token) (r0 : Row) (p : Parts) (st : Started ts r0 p) where
   refuse NoDerivation nm = no_script nm
   refuse TooDeep nm = refuse_by nm (ltb (length ts) 500) refl
 
-  module _ {K : Type 0} (R : K → K → Row → Forest → Type 0) (e0 x0 : K) (f : Found) (m : Made true (stms (fin form.Script)) p R e0 x0 f) where
+  module _ {K : Type 0} (R : K → K → Children → Forest → Type 0) (e0 x0 : K) (f : Found) (m : Made true (stms (fin form.Script)) p R e0 x0 f) where
     abbrev t0 : Tree
     t0 = node (head f.traits.form (lo_of ts) f.hi) m.run.0
 
@@ -139,7 +139,7 @@ module _ (ts : List Token) (r0 : Row) (p : Parts) (st : Started ts r0 p) where
         (ap (λ (x : Tree × List Token). x.0) e, ap (λ (x : Tree × List Token). x.1) e)
 
     kept : R e0 e0 r0 nil → R x0 e0 (single f.slot) (t0 ▸ nil)
-    kept rn = row_at R x0 e0 f (lo_of ts) m.run.0 (sym (m.lo ∙ rw st.lo refl)) (m.rows e0 nil (subst (λ (r : Row). R e0 e0 r nil) (sym st.row) rn))
+    kept rn = row_at R x0 e0 f (lo_of ts) m.run.0 (sym (m.lo ∙ rw st.lo refl)) (m.rows e0 nil (subst (λ (r : Children). R e0 e0 r nil) (sym st.row) rn))
 
     pub left_over : false ≡ (length f.ahead.now == 0) → NotScript ts NoDerivation
     left_over off u d =
@@ -157,7 +157,7 @@ begun_script : (ts : List Token) (y : Ran) → y.form ≡ form.Script → T (ok 
 unfolding attr
 begun_script ts y e = subst (λ (g : Form). T (eqb 6 (sort_rank (sort_of g)))) (sym e) tt
 
-module _ {K : Type 0} (ts : List Token) (R : K → K → Row → Forest → Type 0) (e0 x0 : K) (f : Found) (w : Whole ts R e0 x0 f) where
+module _ {K : Type 0} (ts : List Token) (R : K → K → Children → Forest → Type 0) (e0 x0 : K) (f : Found) (w : Whole ts R e0 x0 f) where
   pub unfit : f.good ≡ false → NotScript ts NoDerivation
   unfit n u d =
       let g : good w.tree ≡ true = T_true (good w.tree) (subst Good (w.only u d) (derived_good ts u d).1) in

@@ -13,7 +13,7 @@ use Rattle.reader.specs.Table.{Turns}
 use Rattle.reader.specs.Reads.{own, eats, Bad, NotParsed}
 use Rattle.recognizer.specs.Reads.{standing_of, Started, Alone, Holds, Shape, Shaped, Parsed, Made, NotMade, Reached, Climbed, Onward}
 use Rattle.reader.specs.Rows.{single}
-use Rattle.reader.specs.declared.sink.Row.{Row}
+use Rattle.records.specs.declared.build.Children.{Children}
 use Rattle.recognizer.specs.declared.found.Found.{Found}
 use Rattle.recognizer.specs.declared.found.Parts.{Parts}
 use Rattle.reader.specs.declared.unread.Unread.{Unread}
@@ -43,7 +43,7 @@ pub shape_node : (us : Forest) (f : Found) (l : ℕ) → l ≡ f.lo → Shaped u
 unfolding attr good size depth
 shape_node us f l e s = record { heads = rw e refl; attributes = s.attributes; fit = s.fit; records = ap (λ (k : ℕ). 1 + k) s.records; nests = ap (λ (k : ℕ). 1 + k) s.nests }
 
-pub holds_nil : (ks : List Token) (r : Row) (p : Parts) → Started ks r p → Holds nil p
+pub holds_nil : (ks : List Token) (r : Children) (p : Parts) → Started ks r p → Holds nil p
 unfolding attrs goods sizes depths
 holds_nil ks r p s = record { children = s.children; fit = sym s.fit; records = sym s.records; nests = sym s.nests }
 
@@ -61,7 +61,7 @@ stands t f s = ap (λ (a : Attr). a.standing) s.attributes
 sorted : (t : Tree) (f : Found) → Shape t f → (attr t).sort ≡ sort_of f.traits.form
 sorted t f s = ap (λ (a : Attr). a.sort) s.attributes
 
-pub row_at : {K : Type 0} (R : K → K → Row → Forest → Type 0) (x z : K) (f : Found) (l : ℕ) (us : Forest) → l ≡ f.lo → R x z (single f.slot) (node (head f.traits.form f.lo f.hi) us ▸ nil) → R x z (single f.slot) (node (head f.traits.form l f.hi) us ▸ nil)
+pub row_at : {K : Type 0} (R : K → K → Children → Forest → Type 0) (x z : K) (f : Found) (l : ℕ) (us : Forest) → l ≡ f.lo → R x z (single f.slot) (node (head f.traits.form f.lo f.hi) us ▸ nil) → R x z (single f.slot) (node (head f.traits.form l f.hi) us ▸ nil)
 row_at R x z f l us e h = rw e h
 
 parse_one : (m : ℕ) (b : Bool) (q : Goal) (ks : List Token) (y : Ran) → perform m b (prefix q ks) 0 ks ≡ some y → parse (suc m) b q ks ≡ loop m b q (begun ks y) y.left
@@ -95,14 +95,14 @@ module _ (ts : List Token) (b : Bool) (q : Goal) where
   pub no_room : NotParsed ts b q 0 TooDeep
   no_room n t r h = some_deep t
 
-  module _ (s : Do) (r0 : Row) (p : Parts) (st : Started ts r0 p) (e : s ≡ prefix q ts) where
-    pub reached_first : {K : Type 0} (R : K → K → Row → Forest → Type 0) (e0 x0 : K) (f : Found) → T (eats (prefix q ts)) → R e0 e0 r0 nil → Made b s p R e0 x0 f → Reached ts b q R e0 x0 f
+  module _ (s : Do) (r0 : Children) (p : Parts) (st : Started ts r0 p) (e : s ≡ prefix q ts) where
+    pub reached_first : {K : Type 0} (R : K → K → Children → Forest → Type 0) (e0 x0 : K) (f : Found) → T (eats (prefix q ts)) → R e0 e0 r0 nil → Made b s p R e0 x0 f → Reached ts b q R e0 x0 f
     reached_first R e0 x0 f o rn m =
         let (us, (k, r), h) = m.run in
         let one : 1 ≤ own s = own_true s (subst (λ (x : Do). T (eats x)) (sym e) o) in
         let y : Ran = ran f.traits.form us f.hi f.ahead.now in
         record {
-          rows = row_at R x0 e0 f (lo_of ts) us (sym (m.lo ∙ st.lo)) (m.rows e0 nil (subst (λ (r : Row). R e0 e0 r nil) (sym st.row) rn));
+          rows = row_at R x0 e0 f (lo_of ts) us (sym (m.lo ∙ st.lo)) (m.rows e0 nil (subst (λ (r : Children). R e0 e0 r nil) (sym st.row) rn));
           few = omega (arith, m.few, st.records, ap length st.ahead, one);
           nests = m.nests;
           tree = (
@@ -118,7 +118,7 @@ module _ (ts : List Token) (b : Bool) (q : Goal) where
         let h3 : perform m b s p.hi p.ahead.now ≡ some y = rw (e, st.hi, st.ahead) h1 in
         bad_up x inner room (depths y.kids) (depth t) pos is (nm m y h3) (omega (arith, depth_node (head y.form (lo_of ts) y.upto) y.kids, grow m b q (begun ts y) y.left t r h2))
 
-  module _ {K : Type 0} (R : K → K → Row → Forest → Type 0) (d0 m0 : K) (l : Found) (re : Reached ts b q R d0 m0 l) (s : Do) (p : Parts) (al : Alone l p) (a : After) (ch : Bool) (tn : Turns a ch s) (ea : a ≡ next l.ahead.now) (ec : ch ≡ is_o (standing_of l)) (on : Onward b q l true) where
+  module _ {K : Type 0} (R : K → K → Children → Forest → Type 0) (d0 m0 : K) (l : Found) (re : Reached ts b q R d0 m0 l) (s : Do) (p : Parts) (al : Alone l p) (a : After) (ch : Bool) (tn : Turns a ch s) (ea : a ≡ next l.ahead.now) (ec : ch ≡ is_o (standing_of l)) (on : Onward b q l true) where
     does : (t : Tree) → Shape t l → s ≡ frame_do (next l.ahead.now) (attr t).standing
     does t sh = tn (attr t).standing (ap is_o (stands t l sh) ∙ sym ec) ∙ ap (λ (z : After). frame_do z (attr t).standing) ea
 
@@ -152,7 +152,7 @@ module _ (ts : List Token) (b : Bool) (q : Goal) where
                 grown_on t y,
                 shape_node (t ▸ us) f (head_of t).lo lo (h (t ▸ nil) (holds_one t l p sh al)),
                 (k + k2, λ n le. let (n2, le2, e) = w (suc n) (omega arith) in (n2, omega arith, e ∙ loop_on n b q t l.ahead.now y (goes t sh) (rw (does t sh, hi, al.ahead) at (r n (omega arith))))),
-                λ z hz. row_at R x0 z f (head_of t).lo (t ▸ us) lo (m.rows z (t ▸ nil) (subst (λ (r : Row). R m0 z r (t ▸ nil)) (sym al.row) (rs z hz))),
+                λ z hz. row_at R x0 z f (head_of t).lo (t ▸ us) lo (m.rows z (t ▸ nil) (subst (λ (r : Children). R m0 z r (t ▸ nil)) (sym al.row) (rs z hz))),
               );
         }
 
@@ -165,18 +165,18 @@ module _ (ts : List Token) (b : Bool) (q : Goal) where
         let h3 : perform (k + n) b s p.hi p.ahead.now ≡ some y = perform_same (k + n) b s (frame_do (next l.ahead.now) (attr t).standing) p.hi (head_of t).hi p.ahead.now l.ahead.now y (does t sh) hi al.ahead h1 in
         bad_up x inner room (depths y.kids) (depth u) pos is (nm (k + n) y h3) (omega (arith, depth_kids (head y.form (head_of t).lo y.upto) t y.kids, grow (k + n) b q (grown_on t y) y.left u r h2))
 
-  pub stopped : {K : Type 0} (R : K → K → Row → Forest → Type 0) (e0 x0 : K) (f : Found) → Reached ts b q R e0 x0 f → Onward b q f false → Parsed ts b q R e0 x0 f
+  pub stopped : {K : Type 0} (R : K → K → Children → Forest → Type 0) (e0 x0 : K) (f : Found) → Reached ts b q R e0 x0 f → Onward b q f false → Parsed ts b q R e0 x0 f
   stopped R e0 x0 f re off =
       let (t, sh, (k, w)) = re.tree in
       let (n, le, e) = w (suc k) (omega arith) in
       record { few = re.few; nests = re.nests; tree = (t, sh, (n, λ m l. raise_p n m b q ts (t, f.ahead.now) l (e ∙ loop_off k b q t f.ahead.now (sym (off (attr t) (sorted t f sh) (stands t f sh))))), re.rows) }
 
   -- the loop begins
-  pub climbed_none : {K : Type 0} (R : K → K → Row → Forest → Type 0) (d0 e0 : K) (f : Found) → Reached ts b q R d0 e0 f → Climbed ts b q R e0 e0 f f
+  pub climbed_none : {K : Type 0} (R : K → K → Children → Forest → Type 0) (d0 e0 : K) (f : Found) → Reached ts b q R d0 e0 f → Climbed ts b q R e0 e0 f f
   climbed_none R d0 e0 f re = record { few = re.few; nests = re.nests; tree = λ t sh. (t, sh, (0, λ m le. (m, omega arith, refl)), λ z h. h) }
 
   -- what was found before the loop, and in it
-  pub joined : {K : Type 0} (R : K → K → Row → Forest → Type 0) (d0 e0 x0 : K) (f0 f : Found) → Reached ts b q R d0 e0 f0 → Climbed ts b q R e0 x0 f0 f → Reached ts b q R d0 x0 f
+  pub joined : {K : Type 0} (R : K → K → Children → Forest → Type 0) (d0 e0 x0 : K) (f0 f : Found) → Reached ts b q R d0 e0 f0 → Climbed ts b q R e0 x0 f0 f → Reached ts b q R d0 x0 f
   joined R d0 e0 x0 f0 f re cl =
       let (t0, sh0, (k0, w0)) = re.tree in
       let (t, sh, (k, w), rs) = cl.tree t0 sh0 in

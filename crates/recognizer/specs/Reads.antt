@@ -21,7 +21,7 @@ use Rattle.grammar.specs.Parser.{Goal, Do, Ran, ran, parse, loop, perform, goes_
 use Rattle.fitting.specs.Traits.{traits_of}
 use Rattle.fitting.specs.Summary.{Sums}
 use Rattle.reader.specs.Rows.{single}
-use Rattle.reader.specs.declared.sink.Row.{Row}
+use Rattle.records.specs.declared.build.Children.{Children}
 use Rattle.reader.specs.Reads.{own, Reads, Runs, graft, Bad}
 use Rattle.recognizer.specs.declared.found.Found.{Found}
 use Rattle.recognizer.specs.declared.found.Parts.{Parts}
@@ -30,7 +30,7 @@ use Rattle.reader.specs.declared.unread.Unread.{Unread}
 abbrev pub standing_of : Found → Standing
 standing_of f = (traits_of f.traits).standing
 
-pub record Started (ks : List Token) (r : Row) (p : Parts) : Type 0 where
+pub record Started (ks : List Token) (r : Children) (p : Parts) : Type 0 where
   pub children : Sums [] p.children
   pub fit : p.good ≡ true
   pub lo : p.lo ≡ lo_of ks
@@ -50,7 +50,7 @@ pub record Alone (f : Found) (p : Parts) : Type 0 where
   pub nests : p.depth ≡ f.under + 1
   pub row : p.row ≡ single f.slot
 
-pub record Joined (p : Parts) (f : Found) (r : Row) (q : Parts) : Type 0 where
+pub record Joined (p : Parts) (f : Found) (r : Children) (q : Parts) : Type 0 where
   pub children : (cs : List Attr) → Sums cs p.children → Sums (cs ++ (traits_of f.traits ∷ [])) q.children
   pub fit : q.good ≡ p.good && f.good
   pub lo : q.lo ≡ p.lo
@@ -90,12 +90,12 @@ pub record Shaped (us : Forest) (f : Found) : Type 0 where
   pub records : sizes us ≡ f.below
   pub nests : depths us ≡ f.under
 
-pub record Parsed {K : Type 0} (ks : List Token) (b : Bool) (q : Goal) (R : K → K → Row → Forest → Type 0) (e x : K) (f : Found) : Type 0 where
+pub record Parsed {K : Type 0} (ks : List Token) (b : Bool) (q : Goal) (R : K → K → Children → Forest → Type 0) (e x : K) (f : Found) : Type 0 where
   pub few : f.below + length f.ahead.now < length ks
   pub nests : f.under ≤ f.below
   pub tree : (t : Tree) × Shape t f × Reads b q ks t f.ahead.now × R x e (single f.slot) (t ▸ nil)
 
-pub record Made {K : Type 0} (b : Bool) (s : Do) (p : Parts) (R : K → K → Row → Forest → Type 0) (e x : K) (f : Found) : Type 0 where
+pub record Made {K : Type 0} (b : Bool) (s : Do) (p : Parts) (R : K → K → Children → Forest → Type 0) (e x : K) (f : Found) : Type 0 where
   pub few : f.below + own s + length f.ahead.now ≤ p.size + length p.ahead.now
   pub nests : f.under ≤ f.below
   pub lo : f.lo ≡ p.lo
@@ -106,7 +106,7 @@ abbrev pub NotMade : Bool → Do → Parts → ℕ → Unread → Type 0
 NotMade b s p room e = (n : ℕ) (y : Ran) → perform n b s p.hi p.ahead.now ≡ some y → Bad e room (depths y.kids)
 
 -- Since the loop began at p0 with s0 to do: the children us have come, and s is left to do at p.
-pub record Carried {K : Type 0} (b : Bool) (s0 : Do) (p0 : Parts) (R : K → K → Row → Forest → Type 0) (e x : K) (s : Do) (p : Parts) : Type 0 where
+pub record Carried {K : Type 0} (b : Bool) (s0 : Do) (p0 : Parts) (R : K → K → Children → Forest → Type 0) (e x : K) (s : Do) (p : Parts) : Type 0 where
   pub few : p.size + own s0 + length p.ahead.now ≤ p0.size + length p0.ahead.now + own s
   pub fewer : p.size + length p.ahead.now ≤ p0.size + length p0.ahead.now
   pub nests : p.depth ≤ p.size
@@ -115,14 +115,14 @@ pub record Carried {K : Type 0} (b : Bool) (s0 : Do) (p0 : Parts) (R : K → K �
   pub rows : (z : K) (ws : Forest) → R e z p0.row ws → R x z p.row (ws ⊕ run.0)
 
 -- What the grammar's reader finds at ks is what it finds behind the tree so far.
-pub record Reached {K : Type 0} (ks : List Token) (b : Bool) (q : Goal) (R : K → K → Row → Forest → Type 0) (e x : K) (f : Found) : Type 0 where
+pub record Reached {K : Type 0} (ks : List Token) (b : Bool) (q : Goal) (R : K → K → Children → Forest → Type 0) (e x : K) (f : Found) : Type 0 where
   pub few : f.below + length f.ahead.now < length ks
   pub nests : f.under ≤ f.below
   pub tree : (t : Tree) × Shape t f × ((k : ℕ) × ((m : ℕ) → k ≤ m → (n : ℕ) × (m ≤ n) × (parse n b q ks ≡ loop m b q t f.ahead.now)))
   pub rows : R x e (single f.slot) (tree.0 ▸ nil)
 
 -- Since the loop began, with f0: what the grammar's reader finds behind f0 is what it finds behind the tree so far.
-pub record Climbed {K : Type 0} (ks : List Token) (b : Bool) (q : Goal) (R : K → K → Row → Forest → Type 0) (e x : K) (f0 f : Found) : Type 0 where
+pub record Climbed {K : Type 0} (ks : List Token) (b : Bool) (q : Goal) (R : K → K → Children → Forest → Type 0) (e x : K) (f0 f : Found) : Type 0 where
   pub few : f.below + length f.ahead.now < length ks
   pub nests : f.under ≤ f.below
   pub tree : (t0 : Tree) → Shape t0 f0 → (t : Tree) × Shape t f × ((k : ℕ) × ((m : ℕ) → k ≤ m → (n : ℕ) × (m ≤ n) × (loop n b q t0 f0.ahead.now ≡ loop m b q t f.ahead.now))) × ((z : K) → R e z (single f0.slot) (t0 ▸ nil) → R x z (single f.slot) (t ▸ nil))

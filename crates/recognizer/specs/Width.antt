@@ -16,10 +16,10 @@ use Rattle.grammar.specs.Parser.{scr}
 use Rattle.reader.specs.Reads.{Reads}
 use Rattle.recognizer.specs.Reads.{Shape}
 use Rattle.reader.specs.Rows.{single}
-use Rattle.reader.specs.declared.sink.Row.{Row}
+use Rattle.records.specs.declared.build.Children.{Children}
 use Rattle.recognizer.specs.declared.found.Found.{Found}
 
-pub record Whole {K : Type 0} (ts : List Token) (R : K → K → Row → Forest → Type 0) (e x : K) (f : Found) : Type 0 where
+pub record Whole {K : Type 0} (ts : List Token) (R : K → K → Children → Forest → Type 0) (e x : K) (f : Found) : Type 0 where
   pub tree : Tree
   pub shape : Shape tree f
   pub found : Reads true scr ts tree []
@@ -27,7 +27,7 @@ pub record Whole {K : Type 0} (ts : List Token) (R : K → K → Row → Forest 
   pub few : f.below ≤ length ts
   pub row : R x e (single f.slot) (tree ▸ nil)
 
-pub record Scripted {K : Type 0} (ts : List Token) (R : K → K → Row → Forest → Type 0) (e x : K) (f : Found) : Type 0 where
+pub record Scripted {K : Type 0} (ts : List Token) (R : K → K → Children → Forest → Type 0) (e x : K) (f : Found) : Type 0 where
   pub tree : Tree
   pub derived : claim.Reads ts tree
   pub shape : Shape tree f

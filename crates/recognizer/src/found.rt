@@ -6,7 +6,7 @@ ghost use Rattle.recognizer.specs.Reads.{Started, Alone, Eaten, Joined, Complete
 
 use fitting::{Summary, Traits, children_fit, traits_of};
 use kinds::Form;
-use reader::sink::Row;
+use records::Children;
 use token::{Code, Token};
 
 /// A tree that was read: what the place where it stands can ask of it, whether in each of its records the children fit, its
@@ -35,7 +35,7 @@ pub struct Parts<'a> {
     pub ahead: &'a [Token],
     pub size: usize,
     pub depth: usize,
-    pub row: Row,
+    pub row: Children,
 }
 
 /// Where the next token begins, if there is one.
@@ -60,7 +60,7 @@ impl<'a> Found<'a> {
             ahead: self.ahead,
             size: self.below + 1,
             depth: self.under + 1,
-            row: Row {
+            row: Children {
                 first: self.slot,
                 last: self.slot,
             },
@@ -70,7 +70,7 @@ impl<'a> Found<'a> {
 
 impl<'a> Parts<'a> {
     /// A record that begins with the next token, over a row of no trees.
-    pub fn start(ahead: &'a [Token], row: Row) -> Parts<'a>
+    pub fn start(ahead: &'a [Token], row: Children) -> Parts<'a>
         ensures { Started ahead.now row result }
     {
         Parts {
@@ -101,7 +101,7 @@ impl<'a> Parts<'a> {
     }
 
     /// The parts with one more child, which makes the row of them `row`.
-    pub fn join(self, child: Found<'a>, row: Row) -> Parts<'a>
+    pub fn join(self, child: Found<'a>, row: Children) -> Parts<'a>
         requires few { self.size + child.below < 2 ^ 63 }
         requires nests { child.under ≤ child.below }
         ensures { Joined self.entry child.entry row result }

@@ -18,6 +18,7 @@ use reader::sink::Sink;
 use reader::step::{Step, next_step};
 use reader::turn::{Turn, behind, first_slot, grown, stands, turn_at};
 use reader::unread::{Unread, refused};
+use records::Head;
 use token::Token;
 
 /// Whether the expression goes on with the token behind it, when it is read for the slot.
@@ -69,7 +70,12 @@ fn record<'a, S: Sink>(
         match next_step(parts.ahead, rest) {
             Step::Fail => return Err(Unread::NoDerivation),
             Step::Finish(form) => {
-                let slot = sink.nest(form, parts.row, parts.lo, parts.hi);
+                let head = Head {
+                    form,
+                    lo: parts.lo,
+                    hi: parts.hi,
+                };
+                let slot = sink.nest(head, parts.row);
                 return Ok(parts.complete(form, slot));
             }
             Step::Eat(code, then) => {

@@ -3,16 +3,15 @@ ghost use Rattle.std.specs.Prelude.{◌≡◌, ℕ, ◌<◌, ◌≤◌, List, le
 ghost use Rattle.chain.specs.Chain.{room, Slot, Chain, slots_from, Beyond};
 ghost use Rattle.records.specs.declared.record.Mark.TheVariants.{Unmarked};
 ghost use Rattle.records.specs.Record.{at, links, vacant, stamped};
-ghost use Rattle.grammar.specs.Tree.{head, Tree, Forest, node, nil, ◌▸◌, ◌⊕◌};
+ghost use Rattle.grammar.specs.Tree.{Tree, Forest, nil, ◌▸◌, ◌⊕◌};
 ghost use Rattle.records.specs.declared.record.Record.{Record};
 ghost use Rattle.records.specs.Siblings.{Siblings, Loose, Given};
-ghost use Rattle.records.specs.Building.{Stands};
+ghost use Rattle.records.specs.Building.{rooted, Stands};
 
 use crate::build::Children;
 use crate::give_back::give_back_tree;
-use crate::record::{Mark, Record};
+use crate::record::{Head, Mark, Record};
 use crate::{build, slots};
-use kinds::Form;
 
 /// The records, and where the chain of the free ones begins.
 #[derive(Drop)]
@@ -61,14 +60,14 @@ impl<'a> Store<'a> {
         self.free = give_back_tree(self.slots, free, root);
     }
 
-    /// Draws a record for a parent and puts it over the row that begins at `first`.
-    pub fn nest(&mut self, form: Form, first: u16, lo: u32, hi: u32) -> u16
-        ensures row { (s : List Record) (from last : ℕ) (us : Forest) → Stands s from self.old.slots.now self.old.free first last us
-            → Stands s from self.new.slots.now self.new.free result result (node (head form lo hi) us ▸ nil) }
+    /// Draws a record for a parent and puts it over its children.
+    pub fn nest(&mut self, head: Head, children: Children) -> u16
+        ensures row { (s : List Record) (from last : ℕ) (us : Forest) → Stands s from self.old.slots.now self.old.free children.first last us
+            → Stands s from self.new.slots.now self.new.free result result (rooted head us ▸ nil) }
         ensures lender { self.new.slots.ghost_name ≡ self.old.slots.ghost_name }
     {
         let mut free = self.free;
-        let slot = build::nest(self.slots, &mut free, form, first, lo, hi);
+        let slot = build::nest(self.slots, &mut free, head, children.first);
         self.free = free;
         slot
     }
