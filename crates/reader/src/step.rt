@@ -70,6 +70,7 @@ fn behind_list(list: List) -> Rest
     }
 }
 
+/// A list behind its opening bracket.
 fn items(ahead: &[Token], list: List) -> Step
     ensures { to_do result ≡ settle (parts_of list) ahead.now }
 {
@@ -80,6 +81,7 @@ fn items(ahead: &[Token], list: List) -> Step
     }
 }
 
+/// A list behind one of its parts.
 fn more(ahead: &[Token], list: List) -> Step
     ensures { to_do result ≡ settle (more_of list) ahead.now }
 {

@@ -112,10 +112,7 @@ pub fn turn_of(code: Code) -> Turn
 pub fn turn_at(ahead: &[Token]) -> Turn
     ensures { turn_of result ≡ next ahead.now }
 {
-    match peek(ahead) {
-        Some(code) => turn_of(code),
-        None => Turn::Ends,
-    }
+    peek(ahead).map_or(Turn::Ends, turn_of)
 }
 
 /// The slot that the expression before the token then stands in.
@@ -133,21 +130,12 @@ pub fn first_slot(turn: Turn) -> Slot
     }
 }
 
-fn operates(operator: BinaryOperator, allow_in: bool) -> bool
-    ensures { result ≡ is_frame allow_in (binary_frame operator) }
-{
-    match operator {
-        BinaryOperator::In => allow_in,
-        _ => true,
-    }
-}
-
 /// Whether the token can stand behind an expression, where `in` may stand in the open or may not.
 pub fn stands(turn: Turn, allow_in: bool) -> bool
     ensures { result ≡ is_frame allow_in (frame (turn_of turn)) }
 {
     match turn {
-        Turn::Operates(operator) => operates(operator, allow_in),
+        Turn::Operates(BinaryOperator::In) => allow_in,
         Turn::Ends | Turn::Cannot => false,
         _ => true,
     }

@@ -119,13 +119,13 @@ and_assoc : (a b c : Bool) → a && (b && c) ≡ (a && b) && c
 and_assoc true b c = refl
 and_assoc false b c = refl
 
+pub and_true : (a : Bool) → a && true ≡ a
+and_true true = refl
+and_true false = refl
+
 goods_last : (us : Forest) (t : Tree) → goods (us ⊕ (t ▸ nil)) ≡ goods us && good t
 unfolding goods
 goods_last nil t = and_true (good t)
-  where
-    and_true : (a : Bool) → a && true ≡ a
-    and_true true = refl
-    and_true false = refl
 goods_last (u ▸ us) t = ap (λ (b : Bool). good u && b) (goods_last us t) ∙ and_assoc (good u) (goods us) (good t)
 
 holds_same : (us : Forest) (p q : Parts) → q.children ≡ p.children → q.good ≡ p.good → q.size ≡ p.size → q.depth ≡ p.depth → Holds us p → Holds us q
@@ -154,8 +154,8 @@ bad_le NoDerivation i d b h le = h
 bad_le TooDeep i d b h le = omega arith
 
 module _ {K : Type 0} (R : K → K → Children → Forest → Type 0) (b : Bool) where
-  pub carried_none : (e0 : K) (s : Do) (p : Parts) → p.depth ≤ p.size → Carried b s p R e0 e0 s p
-  carried_none e0 s p n = record { rows = λ z ws h. subst (λ (us : Forest). R e0 z p.row us) (sym (join_nil ws)) h; few = omega arith; fewer = omega arith; nests = n; lo = refl; run = (nil, λ ws h. subst (λ (us : Forest). Holds us p) (sym (join_nil ws)) h, (0, λ m le. (m, omega arith, graft_nil (perform m b s p.hi p.ahead.now)))) }
+  pub carried_none : (e0 : K) (s : Do) (p : Parts) → Carried b s p R e0 e0 s p
+  carried_none e0 s p = record { rows = λ z ws h. subst (λ (us : Forest). R e0 z p.row us) (sym (join_nil ws)) h; few = omega arith; fewer = omega arith; lo = refl; run = (nil, λ ws h. subst (λ (us : Forest). Holds us p) (sym (join_nil ws)) h, (0, λ m le. (m, omega arith, graft_nil (perform m b s p.hi p.ahead.now)))) }
 
   module _ (s0 : Do) (p0 : Parts) (e0 m0 : K) (s : Do) (p : Parts) (c : Carried b s0 p0 R e0 m0 s p) where
     pub carried_eat : (k : Code) (s2 : Do) (q : Parts) → settle s p.ahead.now ≡ eat k s2 → Behind p k q → Carried b s0 p0 R e0 m0 s2 q
@@ -165,7 +165,6 @@ module _ {K : Type 0} (R : K → K → Children → Forest → Type 0) (b : Bool
         record {
           few = omega (arith, c.few, x.records, ap length v, own_one s);
           fewer = omega (arith, c.fewer, x.records, ap length v);
-          nests = omega (arith, c.nests, x.records, x.nests);
           rows = λ z ws hw. subst (λ (r : Children). R m0 z r (ws ⊕ us)) (sym x.row) (c.rows z ws hw);
           lo = x.lo ∙ c.lo;
           run = (
@@ -183,7 +182,6 @@ module _ {K : Type 0} (R : K → K → Children → Forest → Type 0) (b : Bool
         record {
           few = omega (arith, c.few, x.few, j.records, ap length j.ahead, big);
           fewer = omega (arith, c.fewer, x.few, j.records, ap length j.ahead);
-          nests = omega (arith, c.nests, x.nests, j.records, j.nests);
           rows = λ z ws hw. subst (λ (r : Children). R x2 z r (ws ⊕ (us ⊕ (t ▸ nil)))) (sym j.row) (subst (λ (vs : Forest). R x2 z r2 vs) (join_assoc ws us (t ▸ nil)) (pu.at z m0 (ws ⊕ us) t (c.rows z ws hw) sk));
           lo = j.lo ∙ c.lo;
           run = (
@@ -210,7 +208,6 @@ module _ {K : Type 0} (R : K → K → Children → Forest → Type 0) (b : Bool
         let is : perform n b s0 p0.hi p0.ahead.now ≡ some (ran f.traits.form us f.hi f.ahead.now) = y ∙ ap (graft us) (step_fin k0 b s p.hi p.ahead.now g e) ∙ rw (x.form, x.hi, x.ahead, join_nil us) refl in
         record {
           few = omega (arith, c.few, x.records, ap length x.ahead, big);
-          nests = omega (arith, c.nests, x.records, x.nests);
           rows = λ z ws hw. rw (x.slot, x.form, x.lo, x.hi) (ne.at z (ws ⊕ us) (c.rows z ws hw));
           lo = x.lo ∙ c.lo;
           run = (

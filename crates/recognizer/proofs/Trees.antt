@@ -1,5 +1,5 @@
 -- The loop over what follows an expression.
-use Rattle.std.proofs.Common.{◌≡◌, ℕ, zero, suc, ◌+◌, ◌-◌, ◌<◌, ◌≤◌, Bool, true, false, cond, ◌&&◌, T, List, [], ◌∷◌, length, sym, refl, ap, ◌∙◌, subst, arith}
+use Rattle.std.proofs.Common.{◌≡◌, ℕ, zero, suc, ◌+◌, ◌-◌, ◌<◌, ◌≤◌, Bool, true, false, cond, T, List, [], ◌∷◌, length, sym, refl, ap, ◌∙◌, subst, arith}
 use mathlib.Core.Option.{some, none-ne-some}
 use Rattle.token.specs.declared.Token.{Token}
 use Rattle.kinds.specs.Levels.{is_o}
@@ -11,7 +11,7 @@ use Rattle.grammar.specs.Derives.{lo_of}
 use Rattle.grammar.specs.Parser.{Goal, Do, prefix, After, frame_do, frame, next, goes_on, Ran, ran, bind, begun, grown_on, parse, loop, perform}
 use Rattle.reader.specs.Table.{Turns}
 use Rattle.reader.specs.Reads.{own, eats, Bad, NotParsed}
-use Rattle.recognizer.specs.Reads.{standing_of, Started, Alone, Holds, Shape, Shaped, Parsed, Made, NotMade, Reached, Climbed, Onward}
+use Rattle.recognizer.specs.Reads.{standing_of, Started, Alone, Holds, Shape, Shaped, Parsed, Made, NotMade, Reached, Onward}
 use Rattle.reader.specs.Rows.{single}
 use Rattle.records.specs.declared.build.Children.{Children}
 use Rattle.recognizer.specs.declared.found.Found.{Found}
@@ -20,6 +20,7 @@ use Rattle.reader.specs.declared.unread.Unread.{Unread}
 use Rattle.reader.specs.declared.unread.Unread.TheVariants.{NoDerivation, TooDeep}
 use Rattle.reader.proofs.Fuel.{raise_p, bind_inv, grow}
 use Rattle.reader.proofs.Eats.{own_true, frame_eats}
+use Rattle.recognizer.proofs.Records.{and_true}
 
 bad_up : (e : Unread) (i room d c : ℕ) → 0 < room → i ≡ room - 1 → Bad e i d → d + 1 ≤ c → Bad e room c
 bad_up NoDerivation i room d c p q h le = h
@@ -46,10 +47,6 @@ shape_node us f l e s = record { heads = rw e refl; attributes = s.attributes; f
 pub holds_nil : (ks : List Token) (r : Children) (p : Parts) → Started ks r p → Holds nil p
 unfolding attrs goods sizes depths
 holds_nil ks r p s = record { children = s.children; fit = sym s.fit; records = sym s.records; nests = sym s.nests }
-
-and_true : (a : Bool) → a && true ≡ a
-and_true true = refl
-and_true false = refl
 
 holds_one : (t : Tree) (l : Found) (p : Parts) → Shape t l → Alone l p → Holds (t ▸ nil) p
 unfolding attrs goods sizes depths
@@ -104,7 +101,6 @@ module _ (ts : List Token) (b : Bool) (q : Goal) where
         record {
           rows = row_at R x0 e0 f (lo_of ts) us (sym (m.lo ∙ st.lo)) (m.rows e0 nil (subst (λ (r : Children). R e0 e0 r nil) (sym st.row) rn));
           few = omega (arith, m.few, st.records, ap length st.ahead, one);
-          nests = m.nests;
           tree = (
             begun ts y,
             shape_node us f (lo_of ts) (sym (m.lo ∙ st.lo)) (h nil (holds_nil ts r0 p st)),
@@ -138,22 +134,21 @@ module _ (ts : List Token) (b : Bool) (q : Goal) where
     pub longer : (x0 : K) (f : Found) → Made b s p R m0 x0 f → length f.ahead.now < length l.ahead.now
     longer x0 f m = omega (arith, m.few, al.records, ap length al.ahead, one, more_below x0 f m)
 
-    pub climbed_next : (e0 x0 : K) (f0 f : Found) → Climbed ts b q R e0 m0 f0 l → Made b s p R m0 x0 f → Climbed ts b q R e0 x0 f0 f
-    climbed_next e0 x0 f0 f cl m =
+    pub reached_next : (x0 : K) (f : Found) → Made b s p R m0 x0 f → Reached ts b q R d0 x0 f
+    reached_next x0 f m =
+        let (t, sh, (k, w)) = re.tree in
+        let (us, (k2, r), h) = m.run in
+        let y : Ran = ran f.traits.form us f.hi f.ahead.now in
+        let hi : p.hi ≡ (head_of t).hi = al.hi ∙ sym (ap (λ (z : Head). z.hi) sh.heads) in
+        let lo : (head_of t).lo ≡ f.lo = ap (λ (z : Head). z.lo) sh.heads ∙ sym (m.lo ∙ al.lo) in
         record {
+          rows = row_at R x0 d0 f (head_of t).lo (t ▸ us) lo (m.rows d0 (t ▸ nil) (subst (λ (r : Children). R m0 d0 r (t ▸ nil)) (sym al.row) re.rows));
           few = omega (arith, re.few, m.few, al.records, ap length al.ahead, one);
-          nests = m.nests;
-          tree = λ t0 sh0.
-              let (t, sh, (k, w), rs) = cl.tree t0 sh0 in
-              let (us, (k2, r), h) = m.run in
-              let y : Ran = ran f.traits.form us f.hi f.ahead.now in
-              let hi : p.hi ≡ (head_of t).hi = al.hi ∙ sym (ap (λ (z : Head). z.hi) sh.heads) in
-              let lo : (head_of t).lo ≡ f.lo = ap (λ (z : Head). z.lo) sh.heads ∙ sym (m.lo ∙ al.lo) in (
-                grown_on t y,
-                shape_node (t ▸ us) f (head_of t).lo lo (h (t ▸ nil) (holds_one t l p sh al)),
-                (k + k2, λ n le. let (n2, le2, e) = w (suc n) (omega arith) in (n2, omega arith, e ∙ loop_on n b q t l.ahead.now y (goes t sh) (rw (does t sh, hi, al.ahead) at (r n (omega arith))))),
-                λ z hz. row_at R x0 z f (head_of t).lo (t ▸ us) lo (m.rows z (t ▸ nil) (subst (λ (r : Children). R m0 z r (t ▸ nil)) (sym al.row) (rs z hz))),
-              );
+          tree = (
+            grown_on t y,
+            shape_node (t ▸ us) f (head_of t).lo lo (h (t ▸ nil) (holds_one t l p sh al)),
+            (k + k2, λ n le. let (n2, le2, e) = w (suc n) (omega arith) in (n2, omega arith, e ∙ loop_on n b q t l.ahead.now y (goes t sh) (rw (does t sh, hi, al.ahead) at (r n (omega arith))))),
+          );
         }
 
     pub refused_next : (room inner : ℕ) (x : Unread) → 0 < room → inner ≡ room - 1 → NotMade b s p inner x → NotParsed ts b q room x
@@ -169,20 +164,4 @@ module _ (ts : List Token) (b : Bool) (q : Goal) where
   stopped R e0 x0 f re off =
       let (t, sh, (k, w)) = re.tree in
       let (n, le, e) = w (suc k) (omega arith) in
-      record { few = re.few; nests = re.nests; tree = (t, sh, (n, λ m l. raise_p n m b q ts (t, f.ahead.now) l (e ∙ loop_off k b q t f.ahead.now (sym (off (attr t) (sorted t f sh) (stands t f sh))))), re.rows) }
-
-  -- the loop begins
-  pub climbed_none : {K : Type 0} (R : K → K → Children → Forest → Type 0) (d0 e0 : K) (f : Found) → Reached ts b q R d0 e0 f → Climbed ts b q R e0 e0 f f
-  climbed_none R d0 e0 f re = record { few = re.few; nests = re.nests; tree = λ t sh. (t, sh, (0, λ m le. (m, omega arith, refl)), λ z h. h) }
-
-  -- what was found before the loop, and in it
-  pub joined : {K : Type 0} (R : K → K → Children → Forest → Type 0) (d0 e0 x0 : K) (f0 f : Found) → Reached ts b q R d0 e0 f0 → Climbed ts b q R e0 x0 f0 f → Reached ts b q R d0 x0 f
-  joined R d0 e0 x0 f0 f re cl =
-      let (t0, sh0, (k0, w0)) = re.tree in
-      let (t, sh, (k, w), rs) = cl.tree t0 sh0 in
-      record {
-        few = cl.few;
-        nests = cl.nests;
-        tree = (t, sh, (k0 + k, λ m le. let (n, l, e) = w m (omega arith) in let (n2, l2, e2) = w0 n (omega arith) in (n2, omega arith, e2 ∙ e)));
-        rows = rs d0 re.rows;
-      }
+      record { few = re.few; tree = (t, sh, (n, λ m l. raise_p n m b q ts (t, f.ahead.now) l (e ∙ loop_off k b q t f.ahead.now (sym (off (attr t) (sorted t f sh) (stands t f sh))))), re.rows) }

@@ -3,7 +3,7 @@
 --
 --   Shape t f, Holds us p, Shaped us f     what is kept of a tree, of children, of a record over children
 --   Parsed Made NotMade   the promises of the two functions that call each other
---   Carried Climbed       what holds in their loops
+--   Carried Reached       what holds in their loops
 --
 -- Assumes nothing.
 use Rattle.std.specs.Prelude.{◌≡◌, ℕ, ◌+◌, ◌<◌, ◌≤◌, max, Bool, true, false, ◌&&◌, List, [], ◌∷◌, ◌++◌, length, Some, None, Option as OptionR}
@@ -92,12 +92,10 @@ pub record Shaped (us : Forest) (f : Found) : Type 0 where
 
 pub record Parsed {K : Type 0} (ks : List Token) (b : Bool) (q : Goal) (R : K → K → Children → Forest → Type 0) (e x : K) (f : Found) : Type 0 where
   pub few : f.below + length f.ahead.now < length ks
-  pub nests : f.under ≤ f.below
   pub tree : (t : Tree) × Shape t f × Reads b q ks t f.ahead.now × R x e (single f.slot) (t ▸ nil)
 
 pub record Made {K : Type 0} (b : Bool) (s : Do) (p : Parts) (R : K → K → Children → Forest → Type 0) (e x : K) (f : Found) : Type 0 where
   pub few : f.below + own s + length f.ahead.now ≤ p.size + length p.ahead.now
-  pub nests : f.under ≤ f.below
   pub lo : f.lo ≡ p.lo
   pub run : (us : Forest) × Runs b s p.hi p.ahead.now (ran f.traits.form us f.hi f.ahead.now) × ((ws : Forest) → Holds ws p → Shaped (ws ⊕ us) f)
   pub rows : (z : K) (ws : Forest) → R e z p.row ws → R x z (single f.slot) (node (head f.traits.form f.lo f.hi) (ws ⊕ run.0) ▸ nil)
@@ -109,7 +107,6 @@ NotMade b s p room e = (n : ℕ) (y : Ran) → perform n b s p.hi p.ahead.now �
 pub record Carried {K : Type 0} (b : Bool) (s0 : Do) (p0 : Parts) (R : K → K → Children → Forest → Type 0) (e x : K) (s : Do) (p : Parts) : Type 0 where
   pub few : p.size + own s0 + length p.ahead.now ≤ p0.size + length p0.ahead.now + own s
   pub fewer : p.size + length p.ahead.now ≤ p0.size + length p0.ahead.now
-  pub nests : p.depth ≤ p.size
   pub lo : p.lo ≡ p0.lo
   pub run : (us : Forest) × ((ws : Forest) → Holds ws p0 → Holds (ws ⊕ us) p) × ((k : ℕ) × ((m : ℕ) → k ≤ m → (n : ℕ) × (m ≤ n) × (perform n b s0 p0.hi p0.ahead.now ≡ graft us (perform m b s p.hi p.ahead.now))))
   pub rows : (z : K) (ws : Forest) → R e z p0.row ws → R x z p.row (ws ⊕ run.0)
@@ -117,15 +114,8 @@ pub record Carried {K : Type 0} (b : Bool) (s0 : Do) (p0 : Parts) (R : K → K �
 -- What the grammar's reader finds at ks is what it finds behind the tree so far.
 pub record Reached {K : Type 0} (ks : List Token) (b : Bool) (q : Goal) (R : K → K → Children → Forest → Type 0) (e x : K) (f : Found) : Type 0 where
   pub few : f.below + length f.ahead.now < length ks
-  pub nests : f.under ≤ f.below
   pub tree : (t : Tree) × Shape t f × ((k : ℕ) × ((m : ℕ) → k ≤ m → (n : ℕ) × (m ≤ n) × (parse n b q ks ≡ loop m b q t f.ahead.now)))
   pub rows : R x e (single f.slot) (tree.0 ▸ nil)
-
--- Since the loop began, with f0: what the grammar's reader finds behind f0 is what it finds behind the tree so far.
-pub record Climbed {K : Type 0} (ks : List Token) (b : Bool) (q : Goal) (R : K → K → Children → Forest → Type 0) (e x : K) (f0 f : Found) : Type 0 where
-  pub few : f.below + length f.ahead.now < length ks
-  pub nests : f.under ≤ f.below
-  pub tree : (t0 : Tree) → Shape t0 f0 → (t : Tree) × Shape t f × ((k : ℕ) × ((m : ℕ) → k ≤ m → (n : ℕ) × (m ≤ n) × (loop n b q t0 f0.ahead.now ≡ loop m b q t f.ahead.now))) × ((z : K) → R e z (single f0.slot) (t0 ▸ nil) → R x z (single f.slot) (t ▸ nil))
 
 -- Whether a tree of the shape f goes on behind f.
 abbrev pub Onward : Bool → Goal → Found → Bool → Type 0

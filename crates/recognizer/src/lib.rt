@@ -3,6 +3,7 @@
 #![tactic(auto)]
 
 pub mod found;
+pub mod parts;
 pub mod read;
 pub mod tree;
 

@@ -25,18 +25,11 @@ use token::Token;
 fn taken(left: Found, turn: Turn, slot: Slot, allow_in: bool) -> bool
     ensures { result ≡ takes allow_in slot (standing_of left.entry) (frame (turn_of turn)) }
 {
-    if !stands(turn, allow_in) {
-        return false;
-    }
-    if !left.traits.suits(first_slot(turn)) {
-        return false;
-    }
-    fits(
-        slot,
-        grown(turn, left.traits.is_chain()),
-        left.traits.is_call(),
-        left.traits.is_target(),
-    )
+    let traits = left.traits;
+    let form = grown(turn, traits.is_chain());
+    stands(turn, allow_in)
+        && traits.suits(first_slot(turn))
+        && fits(slot, form, traits.is_call(), traits.is_target())
 }
 
 /// Whether what was read for the goal goes on with the token behind it.
@@ -60,8 +53,7 @@ fn record<'a, S: Sink>(
     inner: usize,
     sink: &mut S,
 ) -> Result<Found<'a>, Unread>
-    requires few { start.size + length start.ahead.now < 2 ^ 63 }
-    requires nests { start.depth ≤ start.size }
+    requires { start.size + length start.ahead.now < 2 ^ 63 }
     ensures { MatchResult result (λ f. Made allow_in (do_of begun) start.entry S.rows sink.old sink.new f) (λ e. NotMade allow_in (do_of begun) start.entry inner e) }
 {
     let mut rest = begun;

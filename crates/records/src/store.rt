@@ -66,10 +66,7 @@ impl<'a> Store<'a> {
             → Stands s from self.new.slots.now self.new.free result result (rooted head us ▸ nil) }
         ensures lender { self.new.slots.ghost_name ≡ self.old.slots.ghost_name }
     {
-        let mut free = self.free;
-        let slot = build::nest(self.slots, &mut free, head, children.first);
-        self.free = free;
-        slot
+        build::nest(self.slots, &mut self.free, head, children.first)
     }
 
     /// The row with the tree at `child` behind it; that tree was put up after the row.

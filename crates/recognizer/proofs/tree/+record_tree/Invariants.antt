@@ -1,6 +1,6 @@
 use Rattle.std.proofs.Common.{◌+◌, ◌*◌, length}
 use Rattle.reader.specs.Table.{do_of, goal_of}
-use Rattle.recognizer.specs.Reads.{Carried, Climbed}
+use Rattle.recognizer.specs.Reads.{Carried, Reached}
 use Rattle.recognizer.proofs.tree.+record_tree.Given as goal
 
 abbrev pub decreases-record : goal.decreases-record
@@ -16,7 +16,7 @@ abbrev pub decreases-record-loop-form : goal.decreases-record-loop-form
 decreases-record-loop-form g l = length l.parts.ahead.now
 
 abbrev pub invariant-tree-loop-goal : goal.invariant-tree-loop-goal
-invariant-tree-loop-goal g l = Climbed l.ahead l.allow_in (goal_of l.goal) g.S.Sink.rows l.initial.sink l.sink l.initial.found l.found
+invariant-tree-loop-goal g l = Reached l.ahead l.allow_in (goal_of l.goal) g.S.Sink.rows l.fn.sink l.sink l.found
 
 abbrev pub decreases-tree-loop-goal : goal.decreases-tree-loop-goal
 decreases-tree-loop-goal g l = length l.found.ahead.now
