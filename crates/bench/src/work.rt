@@ -30,15 +30,20 @@ pub fn measure(rt: &HostRuntime, work: Work) -> io::Result<()> {
 }
 
 fn moves_of(heap: Global, work: Work) -> Result<Vec<Move>, AllocError> {
-    let mut moves = Vec::new(heap);
-    for i in 0..work.moves {
-        let to = i.saturating_add(1);
-        moves.push(Move {
-            from: Place { lo: i, hi: i },
-            to: Place { lo: to, hi: to },
-        })?;
+    (0..work.moves)
+        .map(|i| Move {
+            from: point(i),
+            to: point(i.saturating_add(1)),
+        })
+        .collect(heap)
+}
+
+/// The place of nothing, at an offset.
+fn point(offset: u32) -> Place {
+    Place {
+        lo: offset,
+        hi: offset,
     }
-    Ok(moves)
 }
 
 /// Fills a store, makes the moves, and prints the time of both.

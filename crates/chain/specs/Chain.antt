@@ -12,8 +12,10 @@
 --   after n i            the link of the record at index i where a chain has all n slots in their order
 --   relinked f s k v d   the records s, that of slot k with the link v; d is any record
 --   Beyond s t           t has as many records as s, and those that have no slot are as they were
+--   SameLoan a b         the records b are those that were lent as a
 --
 -- Assumes nothing.
+use Rattle.std.specs.Borrow.{MutBor}
 use Rattle.std.specs.Prelude.{◌≡◌, ℕ, zero, suc, ◌+◌, ◌-◌, ◌<◌, ◌≤◌, min, cond, List, [], ◌∷◌, length, drop, Some, None, Option, ◌==◌, nat_lt, slice_index, slice_index_or, slice_set}
 
 abbrev pub room : ℕ → ℕ
@@ -56,3 +58,6 @@ relinked f s k v d = slice_set s (k - 1) (f (slice_index_or s (k - 1) d) v)
 
 abbrev pub Beyond : {X : Type 0} → List X → List X → Type 0
 Beyond s t = (length t ≡ length s) × (drop (room (length s)) t ≡ drop (room (length s)) s)
+
+abbrev pub SameLoan : {X : Type 0} → MutBor X → MutBor X → Type 0
+SameLoan a b = b.ghost_name ≡ a.ghost_name

@@ -49,14 +49,9 @@ fn show_token(rt: &HostRuntime, text: &str, token: Token) -> io::Result<()> {
         Code::Operator(_) => "operator",
         Code::AssignOperator(_) => "assigning operator",
     };
-    let spelled = part(
-        text,
-        Place {
-            lo: token.lo,
-            hi: token.hi,
-        },
-    );
-    println!(rt; "   {} to {}: {sort} {spelled}", token.lo, token.hi)
+    let Token { lo, hi, .. } = token;
+    let at = Place { lo, hi };
+    println!(rt; "   {at}: {sort} {}", part(text, at))
 }
 
 fn show_comment(rt: &HostRuntime, text: &str, comment: Comment) -> io::Result<()> {
@@ -74,16 +69,10 @@ fn show_comment(rt: &HostRuntime, text: &str, comment: Comment) -> io::Result<()
 
 pub fn show_fault(rt: &HostRuntime, text: &str, fault: Fault) -> io::Result<()> {
     match fault {
-        Fault::Unknown(at) => println!(rt;
-            "   {} to {}: {} is no token. Once more:",
-            at.lo,
-            at.hi,
-            part(text, at)
-        ),
-        Fault::Unclosed(at) => println!(rt;
-            "   {} to {}: this comment has no end. Once more:",
-            at.lo, at.hi
-        ),
+        Fault::Unknown(at) => {
+            println!(rt; "   {at}: {} is no token. Once more:", part(text, at))
+        }
+        Fault::Unclosed(at) => println!(rt; "   {at}: this comment has no end. Once more:"),
         Fault::NoMemory => println!(rt; "   There is no memory for it. Once more:"),
     }
 }
@@ -113,13 +102,10 @@ pub fn show_answer(
 
 pub fn show_move(rt: &HostRuntime, m: &Move) -> io::Result<()> {
     let Move { from, to } = *m;
-    println!(rt;
-        "   from the pair at {} to {} to what stands at {} to {}",
-        from.lo, from.hi, to.lo, to.hi
-    )
+    println!(rt; "   from the pair at {from} to what stands at {to}")
 }
 
-/// Prints every list of a store that is not empty, at the offsets of the rule.
+/// Prints every list of a store that is not empty, at the offsets of the rule. A store has no iterator: it answers by offset and rank.
 pub fn show_lists<S: Store>(
     rt: &HostRuntime,
     name: &str,

@@ -46,7 +46,7 @@ fn carry_comments<'x>(rt: &HostRuntime, text: &'x str, rule: &'x Rule) -> io::Re
     }
     stores.compare(rt, shown)?;
     show_moves(rt, moves.as_slice())?;
-    carry_both(&mut stores.spliced, &mut stores.register, moves.as_slice());
+    stores.carry(moves.as_slice());
     println!(rt; "5. The comments afterwards:")?;
     stores.compare(rt, shown)?;
     println!(rt; "6. Both stores are full. One comment more is refused, and nothing changes:")?;
@@ -87,6 +87,11 @@ impl<'a> Stores<'a> {
         let Comment { number, spot, .. } = comment;
         show_answer(rt, "spliced chains", number, self.spliced.add(spot, number))?;
         show_answer(rt, "register", number, self.register.add(spot, number))
+    }
+
+    /// Makes the moves in both.
+    fn carry(&mut self, moves: &[Move]) {
+        carry_both(&mut self.spliced, &mut self.register, moves);
     }
 
     /// Prints the lists of both, and whether they agree at every offset of the rule.

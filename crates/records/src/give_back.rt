@@ -6,7 +6,8 @@ use crate::record::Record;
 use crate::slots::{look, release, write};
 
 /// Gives every record of the siblings at `root`, and of all below them, to the free chain. A first child is turned up before
-/// its parent until a record has none, so no stack is needed: what is left is always one chain of siblings.
+/// its parent until a record has none, so no stack is needed: what is left is always one chain of siblings. It is no iterator: each step
+/// changes the chain that it walks.
 pub fn give_back_tree(slots: &mut [Record], free: u16, root: u16) -> u16
     requires { ∥ ((f : Siblings) × (ks : List ℕ) × Loose slots.old free root f ks) ∥₁ }
     ensures { (f : Siblings) (ks : List ℕ) → Loose slots.old free root f ks → Given slots.old slots.new f ks result }

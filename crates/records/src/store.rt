@@ -1,6 +1,6 @@
 // The caller's records with the head of their free chain: what the calls of a pool work on.
 ghost use Rattle.std.specs.Prelude.{◌≡◌, ℕ, ◌<◌, ◌≤◌, List, length, MatchOption};
-ghost use Rattle.chain.specs.Chain.{room, Slot, Chain, slots_from, Beyond};
+ghost use Rattle.chain.specs.Chain.{room, Slot, Chain, slots_from, Beyond, SameLoan};
 ghost use Rattle.records.specs.declared.record.Mark.TheVariants.{Unmarked};
 ghost use Rattle.records.specs.Record.{at, links, vacant, stamped};
 ghost use Rattle.grammar.specs.Tree.{Tree, Forest, nil, ◌▸◌, ◌⊕◌};
@@ -26,7 +26,7 @@ impl<'a> Store<'a> {
         ensures chain { Chain (links result.slots.now) result.free (slots_from 1 (room (length slots.old))) }
         ensures records { (k : ℕ) → Slot (length slots.old) k → at result.slots.now k ≡ vacant (at result.slots.now k).next }
         ensures beyond { Beyond slots.old result.slots.now }
-        ensures lender { result.slots.ghost_name ≡ slots.entry.ghost_name }
+        ensures lender { SameLoan slots.entry result.slots }
     {
         let free = slots::make(slots);
         Store { slots, free }
@@ -53,7 +53,7 @@ impl<'a> Store<'a> {
         ensures length { length self.new.slots.now ≡ length self.old.slots.now }
         ensures given { (f : Siblings) (ks : List ℕ) → Loose self.old.slots.now self.old.free root f ks
             → Given (stamped self.old.slots.now root Unmarked) self.new.slots.now f ks self.new.free }
-        ensures lender { self.new.slots.ghost_name ≡ self.old.slots.ghost_name }
+        ensures lender { SameLoan self.old.slots self.new.slots }
     {
         slots::stamp(self.slots, root, Mark::Unmarked);
         let free = self.free;

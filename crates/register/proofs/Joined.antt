@@ -1,6 +1,6 @@
 -- Two lists of a register that become one: the lists afterwards, that the ranks are sound again, and what the records are.
 use Rattle.std.proofs.Common.{◌≡◌, ℕ, ◌+◌, ◌<◌, ◌≤◌, true, false, cond, ◌||◌, eqb, ltb, ◌⊎◌, List, [], ◌++◌, map, length, take, drop, count_by, sym, refl, ap, ◌∙◌, subst, inl, inr, ⊎_elim, arith}
-use Rattle.std.proofs.lemmas.List.{length-append, length-map, length-take-le, take_at, drop_at}
+use Rattle.std.proofs.lemmas.List.{length-append, length-map, length-take-le, take_at}
 use Rattle.std.proofs.ByRecursion.{All-weaker}
 use Rattle.std.proofs.lemmas.List.Sums.{count_by-le-length}
 use Rattle.std.proofs.lemmas.Bool.{cond-true, cond-false, cases_Bool, cases_eq, eq-eqb, ne_eqb}
@@ -124,7 +124,3 @@ joined_inside f s t u v l w x = omega (arith, ap length x, length-append (map f 
 pub joined_entries : (f : Entry → Entry) (s t : List Entry) (u v : ℕ) → u ≤ length s → v ≡ u → t ≡ map f (take u s) ++ drop u s → take v t ≡ map f (take u s)
 joined_entries f s t u v l w x =
     ap (λ (n : ℕ). take n t) w ∙ ap (take u) x ∙ take_at (map f (take u s)) (drop u s) u (length-map (take u s) f ∙ length-take-le u s l)
-
-pub joined_beyond : (f : Entry → Entry) (s t : List Entry) (u v : ℕ) → u ≤ length s → v ≡ u → t ≡ map f (take u s) ++ drop u s → drop v t ≡ drop u s
-joined_beyond f s t u v l w x =
-    ap (λ (n : ℕ). drop n t) w ∙ ap (drop u) x ∙ drop_at (map f (take u s)) (drop u s) u (length-map (take u s) f ∙ length-take-le u s l)

@@ -1,7 +1,6 @@
 -- One more entry, behind those that are there and with the next rank of its list.
-use Rattle.std.proofs.Common.{◌≡◌, ℕ, ◌+◌, ◌<◌, Bool, true, false, cond, ◌&&◌, eqb, ltb, ◌≢◌, List, [], ◌∷◌, ◌++◌, map, length, get_or, take, set, count_by, sym, refl, ap, ◌∙◌, ⊎_elim, arith}
+use Rattle.std.proofs.Common.{◌≡◌, ℕ, ◌+◌, ◌<◌, Bool, true, false, cond, ◌&&◌, eqb, ltb, List, [], ◌∷◌, ◌++◌, map, count_by, sym, refl, ap, ◌∙◌, ⊎_elim, arith}
 use Rattle.std.proofs.lemmas.List.FromFn.{map-range_with_len_more}
-use Rattle.std.proofs.lemmas.List.{length-set, take_more_set, get_or-set_other}
 use Rattle.std.proofs.lemmas.List.Sums.{sum_by_push}
 use Rattle.std.proofs.lemmas.Bool.{cond-true, cond-false, cases_Bool, and_left, and_from, eq-eqb}
 use Rattle.std.proofs.lemmas.Bool.Decides.{nat_tests}
@@ -101,13 +100,3 @@ listing_push es e h n at k =
 
     turned : here at k e ≡ same at e.spot.side && eqb k e.spot.offset
     turned = ap (λ (x : Bool). x && eqb e.spot.offset k) (same_turned e.spot.side at) ∙ ap (λ (x : Bool). same at e.spot.side && x) (turned_eqb e.spot.offset k)
-
--- the records after one more has become an entry
-pub pushed_entries : (s t : List Entry) (u v : ℕ) (e : Entry) → u < length s → v ≡ u + 1 → t ≡ set s u e → take v t ≡ take u s ++ e ∷ []
-pushed_entries s t u v e l w x = ap (λ (n : ℕ). take n t) w ∙ ap (take (u + 1)) x ∙ take_more_set s u e l
-
-pub pushed_others : (s t : List Entry) (u i : ℕ) (e d : Entry) → t ≡ set s u e → (i ≡ u → ⊥) → get_or t i d ≡ get_or s i d
-pushed_others s t u i e d x ne = let other : i ≢ u = ne in ap (λ ys. get_or ys i d) x ∙ get_or-set_other s u i e d other
-
-pub pushed_length : (s t : List Entry) (u : ℕ) (e : Entry) → t ≡ set s u e → length t ≡ length s
-pushed_length s t u e x = ap length x ∙ length-set s u e

@@ -2,12 +2,11 @@
 #![tactic(auto)]
 
 mod adding;
-mod entries;
 mod entry;
 mod joining;
 mod pass;
-mod records;
+mod register;
 mod store;
 
 pub use entry::Entry;
-pub use records::Register;
+pub use register::Register;

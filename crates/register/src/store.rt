@@ -1,19 +1,27 @@
 // The register as a comment store: what an addition and a move do to the entries, and what the questions answer.
 ghost use Rattle.std.specs.Prelude.{◌≡◌, ℕ, ◌⊎◌, ◌≢◌, OnErr, slice_index_or};
+ghost use Rattle.chain.specs.Chain.{SameLoan};
 ghost use Rattle.comments.specs.declared.store.Side.{Side};
 ghost use Rattle.comments.specs.Filling.{Fills};
 ghost use Rattle.comments.specs.Lists.{shifted};
 ghost use Rattle.register.specs.declared.entry.Entry.{Entry};
 ghost use Rattle.register.specs.Joins.{together};
-ghost use Rattle.register.specs.Held.{lists_of, spare_of, beyond};
+ghost use Rattle.register.specs.Held.{entries_of, lists_of, spare_of, beyond};
 
 use crate::entry::Entry;
-use crate::joining::Joining;
-use crate::records::Register;
+use crate::joining::{Joining, rejoin_each};
+use crate::pass::{comment_in, count_in};
+use crate::register::Register;
 use comments::{Side, Spot, Store};
 use refusal::Refusal;
 
 impl<'a> Register<'a> {
+    fn entries(&self) -> &[Entry]
+        ensures { result.now ≡ entries_of self.now }
+    {
+        &self.slots[..self.used]
+    }
+
     /// Puts the lists on a side at `first` and `second` together, in this order. `to` is one of the two: there the list is
     /// then, and the other is empty.
     fn put_together(&mut self, side: Side, first: u32, second: u32, to: u32)
@@ -21,16 +29,18 @@ impl<'a> Register<'a> {
         requires ends { (to ≡ first) ⊎ (to ≡ second) }
         ensures lists { (at : Side) (k : ℕ) → lists_of self.new at k ≡ together (lists_of self.old) side first second to at k }
         ensures beyond { beyond self.new ≡ beyond self.old }
-        ensures lender { self.new.entries.slots.ghost_name ≡ self.old.entries.slots.ghost_name }
+        ensures lender { SameLoan self.old.slots self.new.slots }
     {
-        let ahead = self.entries.count(side.at(first));
-        self.entries.join(Joining {
+        let ahead = count_in(self.entries(), side.at(first));
+        let joining = Joining {
             side,
             first,
             second,
             to,
             ahead,
-        });
+        };
+        let used = self.used;
+        rejoin_each(&mut self.slots[..used], joining);
     }
 }
 
@@ -43,18 +53,19 @@ impl<'a> Store for Register<'a> {
     fn add(&mut self, spot: Spot, comment: u32) -> Result<(), Refusal>
         ensures fills { Fills (lists_of self.old) (lists_of self.new) (spare_of self.old) (spare_of self.new) spot.side spot.offset comment result }
         ensures same { OnErr result (self.new ≡ self.old) }
-        ensures records { (i : ℕ) (d : Entry) → (i ≢ self.old.entries.used) → slice_index_or self.new.entries.slots.now i d ≡ slice_index_or self.old.entries.slots.now i d }
-        ensures lender { self.new.entries.slots.ghost_name ≡ self.old.entries.slots.ghost_name }
+        ensures records { (i : ℕ) (d : Entry) → (i ≢ self.old.used) → slice_index_or self.new.slots.now i d ≡ slice_index_or self.old.slots.now i d }
+        ensures lender { SameLoan self.old.slots self.new.slots }
     {
         if self.spare() == 0 {
             return Err(Refusal::TooFewRecords { needed: 1 });
         }
-        let rank = self.entries.count(spot);
-        self.entries.push(Entry {
+        let rank = count_in(self.entries(), spot);
+        self.slots[self.used] = Entry {
             comment,
             spot,
             rank,
-        });
+        };
+        self.used += 1;
         Ok(())
     }
 
@@ -63,7 +74,7 @@ impl<'a> Store for Register<'a> {
         ensures moved { (at : Side) (k : ℕ) → lists_of self.new at k ≡ shifted side (lists_of self.old) from to at k }
         ensures vacant { spare_of self.new ≡ spare_of self.old }
         ensures beyond { beyond self.new ≡ beyond self.old }
-        ensures lender { self.new.entries.slots.ghost_name ≡ self.old.entries.slots.ghost_name }
+        ensures lender { SameLoan self.old.slots self.new.slots }
     {
         if from == to {
             return;
@@ -75,10 +86,10 @@ impl<'a> Store for Register<'a> {
     }
 
     fn count(&self, spot: Spot) -> usize {
-        self.entries.count(spot)
+        count_in(self.entries(), spot)
     }
 
     fn comment(&self, spot: Spot, rank: usize) -> Option<u32> {
-        self.entries.comment(spot, rank)
+        comment_in(self.entries(), spot, rank)
     }
 }

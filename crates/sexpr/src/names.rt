@@ -1,10 +1,7 @@
-// What a record is called in an S-expression.
-use kinds::{
-    Arguments, BinaryOperator, Constant, Entry, Form, Key, Link, Own, Side, Sort, UnaryOperator,
-    UpdateOperator,
-};
+// What a record is called in an S-expression: names of this format alone, so they are no `Display` of the kinds.
+use kinds::{Arguments, Entry, Form, Key, Link, Own, Side, Sort};
 use spelling::spelling_of;
-use token::Code;
+use token::{Code, Word};
 
 /// What stands for a record without children; none for one that may have some. Records do not keep how a name, a number or a
 /// string is spelled, so a letter stands for it, and its place says which word it was.
@@ -13,10 +10,8 @@ pub fn atom_name(form: Form) -> Option<&'static str> {
         Form::Name(_) => Some("a"),
         Form::Num => Some("1"),
         Form::Str => Some("\"s\""),
-        Form::Word(Constant::Null) => Some("null"),
-        Form::Word(Constant::True) => Some("true"),
-        Form::Word(Constant::False) => Some("false"),
-        Form::This => Some("this"),
+        Form::Word(constant) => spelling_of(constant.into()),
+        Form::This => spelling_of(Code::Word(Word::This)),
         _ => None,
     }
 }
@@ -82,54 +77,11 @@ fn chain_name(link: Link, entry: Entry) -> &'static str {
 
 /// How the operator of a form is spelled; none where it has none.
 pub fn operator_name(form: Form) -> Option<&'static str> {
-    match form {
-        Form::Unary(operator) => Some(unary_name(operator)),
-        Form::Update(UpdateOperator::Increment, _) => Some("++"),
-        Form::Update(UpdateOperator::Decrement, _) => Some("--"),
-        Form::Bin(operator) => Some(binary_name(operator)),
-        Form::Assign(operator) => spelling_of(Code::AssignOperator(operator)),
-        _ => None,
-    }
-}
-
-fn unary_name(operator: UnaryOperator) -> &'static str {
-    match operator {
-        UnaryOperator::Minus => "-",
-        UnaryOperator::Plus => "+",
-        UnaryOperator::Not => "!",
-        UnaryOperator::BitNot => "~",
-        UnaryOperator::Typeof => "typeof",
-        UnaryOperator::Void => "void",
-        UnaryOperator::Delete => "delete",
-    }
-}
-
-fn binary_name(operator: BinaryOperator) -> &'static str {
-    match operator {
-        BinaryOperator::Coalesce => "??",
-        BinaryOperator::Or => "||",
-        BinaryOperator::And => "&&",
-        BinaryOperator::BitOr => "|",
-        BinaryOperator::BitXor => "^",
-        BinaryOperator::BitAnd => "&",
-        BinaryOperator::Equal => "==",
-        BinaryOperator::NotEqual => "!=",
-        BinaryOperator::StrictEqual => "===",
-        BinaryOperator::StrictNotEqual => "!==",
-        BinaryOperator::Less => "<",
-        BinaryOperator::LessOrEqual => "<=",
-        BinaryOperator::Greater => ">",
-        BinaryOperator::GreaterOrEqual => ">=",
-        BinaryOperator::In => "in",
-        BinaryOperator::Instanceof => "instanceof",
-        BinaryOperator::LeftShift => "<<",
-        BinaryOperator::RightShift => ">>",
-        BinaryOperator::UnsignedRightShift => ">>>",
-        BinaryOperator::Add => "+",
-        BinaryOperator::Subtract => "-",
-        BinaryOperator::Multiply => "*",
-        BinaryOperator::Divide => "/",
-        BinaryOperator::Remainder => "%",
-        BinaryOperator::Exponent => "**",
-    }
+    spelling_of(match form {
+        Form::Unary(operator) => operator.into(),
+        Form::Update(operator, _) => operator.into(),
+        Form::Bin(operator) => operator.into(),
+        Form::Assign(operator) => Code::AssignOperator(operator),
+        _ => return None,
+    })
 }

@@ -6,7 +6,7 @@ use std::alloc::{AllocError, Global};
 use toolkit::Pool;
 
 /// What is written behind the name of each record.
-#[derive(Clone, Copy)]
+#[derive(Clone, Copy, PartialEq, Eq, Debug)]
 pub enum Detail {
     /// `@lo:hi`
     Places,
@@ -19,58 +19,81 @@ const DEEPEST: u16 = 512;
 
 /// The tree whose root is at a slot, as an S-expression.
 pub fn show(heap: Global, pool: &Pool, root: u16, detail: Detail) -> Result<String, AllocError> {
-    let mut out = String::new(heap);
-    let _ = write_tree(heap, pool, &mut out, root, detail, DEEPEST)?;
-    Ok(out)
+    let mut writer = Writer {
+        pool,
+        detail,
+        out: String::new(heap),
+    };
+    let _ = writer.tree(root, DEEPEST)?;
+    Ok(writer.out)
 }
 
-/// Writes the tree at a slot, and answers the slot of its next sibling; 0 where there is nothing.
-fn write_tree(
-    heap: Global,
-    pool: &Pool,
-    out: &mut String,
-    slot: u16,
+/// What is written, and of what.
+#[derive(Drop)]
+struct Writer<'a, 'b> {
+    pool: &'a Pool<'b>,
     detail: Detail,
-    room: u16,
-) -> Result<u16, AllocError> {
-    if room == 0 {
-        return Ok(0);
-    }
-    let Some(record) = pool.record(slot) else {
-        return Ok(0);
-    };
-    if let Some(name) = atom_name(record.form) {
-        write_name(heap, out, name, slot, record, detail)?;
-        if matches!(record.form, Form::Name(Binding::Valued)) {
-            out.push_str(" =")?;
+    out: String,
+}
+
+impl<'a, 'b> Writer<'a, 'b> {
+    /// Writes the tree at a slot, and answers where its next sibling is, if it has one.
+    fn tree(&mut self, slot: u16, room: u16) -> Result<Option<u16>, AllocError> {
+        if room == 0 {
+            return Ok(None);
         }
-        return Ok(record.next);
+        let Some(record) = self.pool.record(slot) else {
+            return Ok(None);
+        };
+        match atom_name(record.form) {
+            Some(name) => {
+                self.name(name, slot, record)?;
+                if matches!(record.form, Form::Name(Binding::Valued)) {
+                    self.out.push_str(" =")?;
+                }
+            }
+            None => {
+                self.out.push('(')?;
+                self.name(kind_name(record.form), slot, record)?;
+                if let Some(operator) = operator_name(record.form) {
+                    self.out.push(' ')?;
+                    self.out.push_str(operator)?;
+                }
+                let mut child = linked(record.first);
+                for there in head_parts(record.form) {
+                    if !there {
+                        self.out.push_str(" _")?;
+                    } else if let Some(slot) = child {
+                        self.out.push(' ')?;
+                        child = self.tree(slot, room - 1)?;
+                    }
+                }
+                // No record has more children than there are slots.
+                for _ in 0..u16::MAX {
+                    let Some(slot) = child else {
+                        break;
+                    };
+                    self.out.push(' ')?;
+                    child = self.tree(slot, room - 1)?;
+                }
+                self.out.push(')')?;
+            }
+        }
+        Ok(linked(record.next))
     }
-    out.push('(')?;
-    write_name(heap, out, kind_name(record.form), slot, record, detail)?;
-    if let Some(operator) = operator_name(record.form) {
-        out.push(' ')?;
-        out.push_str(operator)?;
-    }
-    let mut child = record.first;
-    for there in head_parts(record.form) {
-        if !there {
-            out.push_str(" _")?;
-        } else if child != 0 {
-            out.push(' ')?;
-            child = write_tree(heap, pool, out, child, detail, room - 1)?;
+
+    fn name(&mut self, name: &str, slot: u16, record: Record) -> Result<(), AllocError> {
+        let Record { lo, hi, .. } = record;
+        match self.detail {
+            Detail::Places => write!(self.out, "{name}@{lo}:{hi}"),
+            Detail::PlacesAndSlots => write!(self.out, "{name}@{lo}:{hi}#{slot}"),
         }
     }
-    // No record has more children than there are slots.
-    for _ in 0..u16::MAX {
-        if child == 0 {
-            break;
-        }
-        out.push(' ')?;
-        child = write_tree(heap, pool, out, child, detail, room - 1)?;
-    }
-    out.push(')')?;
-    Ok(record.next)
+}
+
+/// Where a record's link leads, if it leads anywhere.
+fn linked(link: u16) -> Option<u16> {
+    (link != 0).then_some(link)
 }
 
 /// Which of the first three parts are there. Only the head of a For has gaps.
@@ -79,21 +102,4 @@ fn head_parts(form: Form) -> [bool; 3] {
         Form::For { init, test, update } => [init, test, update],
         _ => [true, true, true],
     }
-}
-
-fn write_name(
-    heap: Global,
-    out: &mut String,
-    name: &str,
-    slot: u16,
-    record: Record,
-    detail: Detail,
-) -> Result<(), AllocError> {
-    let lo = record.lo;
-    let hi = record.hi;
-    let shown = match detail {
-        Detail::Places => format!(in heap; "{name}@{lo}:{hi}")?,
-        Detail::PlacesAndSlots => format!(in heap; "{name}@{lo}:{hi}#{slot}")?,
-    };
-    out.push_str(shown.as_str())
 }

@@ -5,18 +5,17 @@ use Rattle.comments.specs.declared.store.Side.{Side}
 use Rattle.comments.specs.Lists.{added}
 use Rattle.chain.specs.Chain.{room, Slot, link_at, times, relinked}
 use Rattle.chain.proofs.Counting.{is_same}
-use Rattle.chain.proofs.Laws.{chain_slot, link_at_set, link_at_other}
-use Rattle.spliced.specs.declared.notes.Note.{Note}
+use Rattle.chain.proofs.Laws.{chain_slot, chain_once, link_at_set, link_at_other}
 use Rattle.spliced.specs.declared.heads.NoteList.{NoteList}
-use Rattle.spliced.specs.declared.heads.Head.{Head}
-use Rattle.spliced.specs.Notes.{links, comments, comment_at, linked_note}
-use Rattle.spliced.specs.Heads.{head_links, blank, list_at, with_list, key, At, Nowhere, listed}
+use Rattle.spliced.specs.Linked.{links}
+use Rattle.spliced.specs.Notes.{Note, comments, comment_at, linked_note}
+use Rattle.spliced.specs.Heads.{Head, blank, list_at, with_list, key, At, Nowhere, listed}
 use Rattle.spliced.specs.Layout.{Fit, used, Layout, Laid}
 use Rattle.spliced.proofs.Sums.{one_of}
-use Rattle.spliced.proofs.Steps.{Holding, took, extended, opened}
+use Rattle.spliced.proofs.Steps.{Holding, took, extended, opened, relinked_head}
 use Rattle.spliced.proofs.Meaning.{Means, means, key_own, key_spot, map_alike}
 use Rattle.spliced.proofs.Changes.{grown_lists}
-use Rattle.spliced.proofs.Records.{links_joined, comments_joined, links_written, comments_written, head_links_held, holding}
+use Rattle.spliced.proofs.Records.{links_joined, comments_joined, links_written, comments_written, links_held, holding}
 use Rattle.spliced.proofs.Whole.{rooms, below}
 use Rattle.spliced.proofs.Calls.{moved_layout, fresh_by}
 
@@ -26,9 +25,9 @@ fit_slot m None ks k f t = absurd (omega (arith, ap (times k) f))
 fit_slot m (Some l) ks k f t = (chain_slot m l.first k ks f.1 t).0
 
 -- a note with a comment, taken from the unused ones
-module _ (notes : List Note) (heads : List Head) (fn fh held : ℕ) (c : ℕ) (owned : List (List ℕ)) (ns hs : List ℕ) (y : Layout (links notes) (head_links heads) (list_at heads) fn fh held owned (fn ∷ ns) hs []) where
+module _ (notes : List Note) (heads : List Head) (fn fh held : ℕ) (c : ℕ) (owned : List (List ℕ)) (ns hs : List ℕ) (y : Layout (links notes) (links heads) (list_at heads) fn fh held owned (fn ∷ ns) hs []) where
   abbrev taken : List Note
-  taken = set notes (fn - 1) (record { comment = c; next = 0 })
+  taken = set notes (fn - 1) (record { content = c; next = 0 })
 
   -- the one note as a list
   abbrev alone : Side → ℕ → NoteList
@@ -43,8 +42,8 @@ module _ (notes : List Note) (heads : List Head) (fn fh held : ℕ) (c : ℕ) (o
     (refl, subst (λ (n : ℕ). Slot n fn) (sym (length-set (links notes) (fn - 1) 0)) fn_slot, link_at_set (links notes) fn 0 fn_slot),
   )
 
-  pub fresh : Layout (set (links notes) (fn - 1) 0) (head_links heads) (list_at heads) (link_at (links notes) fn) fh (held + 1) owned ns hs (fn ∷ [])
-  fresh = took (links notes) (head_links heads) (list_at heads) fn fh held owned fn ns hs y
+  pub fresh : Layout (set (links notes) (fn - 1) 0) (links heads) (list_at heads) (link_at (links notes) fn) fh (held + 1) owned ns hs (fn ∷ [])
+  fresh = took (links notes) (links heads) (list_at heads) fn fh held owned fn ns hs y
 
   -- the comments of the other notes are as they were
   pub others : (i : ℕ) → i < room (length heads) → map (comment_at (set (comments notes) (fn - 1) c)) (get_or owned i []) ≡ map (comment_at (comments notes)) (get_or owned i [])
@@ -52,7 +51,7 @@ module _ (notes : List Note) (heads : List Head) (fn fh held : ℕ) (c : ℕ) (o
       map_alike (comment_at (set (comments notes) (fn - 1) c)) (comment_at (comments notes)) (get_or owned i [])
       (λ k t. link_at_other (comments notes) fn k c fn_slot.0 (fit_slot (links notes) (list_at heads i) (get_or owned i []) k (y.each i inside) t) (λ e. omega (arith, away, ap (λ (x : ℕ). times x (get_or owned i [])) e)))
     where
-      inside : i < room (length (head_links heads))
+      inside : i < room (length (links heads))
       inside = omega (arith, rooms notes heads fn fh held)
 
       away : times fn (get_or owned i []) ≡ 0
@@ -61,7 +60,7 @@ module _ (notes : List Note) (heads : List Head) (fn fh held : ℕ) (c : ℕ) (o
   pub its_own : comment_at (set (comments notes) (fn - 1) c) fn ≡ c
   its_own =
       link_at_set (comments notes) fn c
-      (subst (λ (n : ℕ). Slot n fn) (length-map notes (λ (n : Note). n.next) ∙ sym (length-map notes (λ (n : Note). n.comment))) fn_slot)
+      (subst (λ (n : ℕ). Slot n fn) (length-map notes (λ (n : Note). n.next) ∙ sym (length-map notes (λ (n : Note). n.content))) fn_slot)
 
   -- put last in a list that is there
   pub put_last :
@@ -92,7 +91,7 @@ module _ (notes : List Note) (heads : List Head) (fn fh held : ℕ) (c : ℕ) (o
         (subst (λ (n : ℕ). Means (comments notes') n (list_at heads') owned' (listed notes' heads')) (ap room long) (means notes' heads' (link_at (links notes) fn) fh (held + 1) owned' ns hs after)),
   )
     where
-      r : room (length (head_links heads)) ≡ room (length heads)
+      r : room (length (links heads)) ≡ room (length heads)
       r = rooms notes heads fn fh held
 
       owned' : List (List ℕ)
@@ -102,7 +101,7 @@ module _ (notes : List Note) (heads : List Head) (fn fh held : ℕ) (c : ℕ) (o
       inside = omega (arith, target.slot_in.0, target.slot_in.1)
 
       new : Head
-      new = record { list = Some l; next = (get_or heads (th - 1) blank).next }
+      new = record { content = Some l; next = (get_or heads (th - 1) blank).next }
 
       long : length heads' ≡ length heads
       long = ap length eh ∙ length-set heads (th - 1) new
@@ -117,7 +116,7 @@ module _ (notes : List Note) (heads : List Head) (fn fh held : ℕ) (c : ℕ) (o
       before = means notes heads fn fh held owned (fn ∷ ns) hs y
 
       new_comments : comments notes' ≡ set (comments notes) (fn - 1) c
-      new_comments = ap comments en ∙ comments_joined taken b.last fn d ∙ comments_written notes (fn - 1) (record { comment = c; next = 0 })
+      new_comments = ap comments en ∙ comments_joined taken b.last fn d ∙ comments_written notes (fn - 1) (record { content = c; next = 0 })
 
       grows : map (comment_at (comments notes')) (get_or owned (th - 1) [] ++ (fn ∷ [])) ≡ listed notes heads side k ++ (c ∷ [])
       grows =
@@ -129,17 +128,17 @@ module _ (notes : List Note) (heads : List Head) (fn fh held : ℕ) (c : ℕ) (o
       fit_b : Fit (set (links notes) (fn - 1) 0) (Some b) (get_or owned (th - 1) [])
       fit_b = subst (λ (o : Option NoteList). Fit (set (links notes) (fn - 1) 0) o (get_or owned (th - 1) [])) target.holds (fresh.each (th - 1) (below notes heads fn fh held side k th b target))
 
-      after : Layout (links notes') (head_links heads') (list_at heads') (link_at (links notes) fn) fh (held + 1) owned' ns hs []
+      after : Layout (links notes') (links heads') (list_at heads') (link_at (links notes) fn) fh (held + 1) owned' ns hs []
       after =
-          moved_layout (set (set (links notes) (fn - 1) 0) (b.last - 1) fn) (links notes') (head_links heads) (head_links heads') (list_at heads') (link_at (links notes) fn) fh (held + 1) owned' ns hs []
-          (ap links en ∙ links_joined taken b.last fn d ∙ ap (λ (m : List ℕ). set m (b.last - 1) fn) (links_written notes (fn - 1) (record { comment = c; next = 0 })))
-          (ap head_links eh ∙ head_links_held heads th (Some l))
-          (extended (set (links notes) (fn - 1) 0) (head_links heads) (list_at heads) (link_at (links notes) fn) fh (held + 1) owned (th - 1) b (alone side k) l (get_or owned (th - 1) []) (fn ∷ []) (list_at heads') ns hs (fn ∷ [])
+          moved_layout (set (set (links notes) (fn - 1) 0) (b.last - 1) fn) (links notes') (links heads) (links heads') (list_at heads') (link_at (links notes) fn) fh (held + 1) owned' ns hs []
+          (ap links en ∙ links_joined taken b.last fn d ∙ ap (λ (m : List ℕ). set m (b.last - 1) fn) (links_written notes (fn - 1) (record { content = c; next = 0 })))
+          (ap links eh ∙ links_held heads th (Some l))
+          (extended (set (links notes) (fn - 1) 0) (links heads) (list_at heads) (link_at (links notes) fn) fh (held + 1) owned (th - 1) b (alone side k) l (get_or owned (th - 1) []) (fn ∷ []) (list_at heads') ns hs (fn ∷ [])
           (below notes heads fn fh held side k th b target) fit_b (one_note side k)
           (λ j. refl) refl first last
           (λ at j u. ap (key at j) target.holds ∙ sym (same_key at j) ∙ u)
           (ap used target.holds)
-          (hold (room (length (head_links heads))))
+          (hold (room (length (links heads))))
           fresh)
 
 -- put into a list that is new
@@ -152,11 +151,11 @@ pub put_first :
     (ns hs : List ℕ)
     (side : Side)
     (k : ℕ)
-    → Layout (links notes) (head_links heads) (list_at heads) fn fh held owned (fn ∷ ns) (fh ∷ hs) []
+    → Layout (links notes) (links heads) (list_at heads) fn fh held owned (fn ∷ ns) (fh ∷ hs) []
     → Nowhere heads side k
-    → notes' ≡ set notes (fn - 1) (record { comment = c; next = 0 })
-    → heads' ≡ with_list heads fh (Some (record { spot = record { side = side; offset = k }; first = fn; last = fn }))
-    → Laid notes' heads' (link_at (links notes) fn) (link_at (head_links heads) fh) (held + 1) × ((at : Side) (j : ℕ) → listed notes' heads' at j ≡ added (listed notes heads) side k c at j)
+    → notes' ≡ set notes (fn - 1) (record { content = c; next = 0 })
+    → heads' ≡ set heads (fh - 1) (record { content = Some (record { spot = record { side = side; offset = k }; first = fn; last = fn }); next = 0 })
+    → Laid notes' heads' (link_at (links notes) fn) (link_at (links heads) fh) (held + 1) × ((at : Side) (j : ℕ) → listed notes' heads' at j ≡ added (listed notes heads) side k c at j)
 put_first notes notes' heads heads' fn fh held c owned ns hs side k y none en eh = (
   (owned', ns, hs, after),
   grown_lists (comments notes) (comments notes') (room (length heads)) (list_at heads) (list_at heads') owned (listed notes heads) (listed notes' heads') side k c (fh - 1) l (fn ∷ [])
@@ -168,32 +167,32 @@ put_first notes notes' heads heads' fn fh held c owned ns hs side k y none en eh
       (ap (λ (cs : List ℕ). comment_at cs fn ∷ []) new_comments ∙ ap (λ (x : ℕ). x ∷ []) (its_own notes heads fn fh held c owned ns (fh ∷ hs) y) ∙ ap (λ (xs : List ℕ). xs ++ (c ∷ [])) (sym (before.missing side k none)))
       (λ i q. ap (λ (cs : List ℕ). map (comment_at cs) (get_or owned i [])) new_comments ∙ others notes heads fn fh held c owned ns (fh ∷ hs) y i q)
       before
-      (subst (λ (n : ℕ). Means (comments notes') n (list_at heads') owned' (listed notes' heads')) (ap room long) (means notes' heads' (link_at (links notes) fn) (link_at (head_links heads) fh) (held + 1) owned' ns hs after)),
+      (subst (λ (n : ℕ). Means (comments notes') n (list_at heads') owned' (listed notes' heads')) (ap room long) (means notes' heads' (link_at (links notes) fn) (link_at (links heads) fh) (held + 1) owned' ns hs after)),
 )
   where
     l : NoteList
     l = record { spot = record { side = side; offset = k }; first = fn; last = fn }
 
-    r : room (length (head_links heads)) ≡ room (length heads)
+    r : room (length (links heads)) ≡ room (length heads)
     r = rooms notes heads fn fh held
 
     owned' : List (List ℕ)
     owned' = set owned (fh - 1) (fn ∷ [])
 
-    sh : Slot (length (head_links heads)) fh
+    sh : Slot (length (links heads)) fh
     sh = y.heads.1
 
     inside : fh - 1 < room (length heads)
     inside = omega (arith, r, sh.0, sh.1)
 
     new : Head
-    new = record { list = Some (record { spot = record { side = side; offset = k }; first = fn; last = fn }); next = (get_or heads (fh - 1) blank).next }
+    new = record { content = Some l; next = 0 }
 
     long : length heads' ≡ length heads
-    long = ap length eh ∙ length-set heads (fh - 1) (record { list = Some (record { spot = record { side = side; offset = k }; first = fn; last = fn }); next = (get_or heads (fh - 1) blank).next })
+    long = ap length eh ∙ length-set heads (fh - 1) new
 
-    hold : (n : ℕ) → Holding (list_at heads) n (fh - 1) (Some (record { spot = record { side = side; offset = k }; first = fn; last = fn })) (list_at heads')
-    hold n = subst (λ (h : List Head). Holding (list_at heads) n (fh - 1) (Some (record { spot = record { side = side; offset = k }; first = fn; last = fn })) (list_at h)) (sym eh) (holding heads n (fh - 1) (record { list = Some (record { spot = record { side = side; offset = k }; first = fn; last = fn }); next = (get_or heads (fh - 1) blank).next }) (omega (arith, inside)))
+    hold : (n : ℕ) → Holding (list_at heads) n (fh - 1) (Some l) (list_at heads')
+    hold n = subst (λ (h : List Head). Holding (list_at heads) n (fh - 1) (Some l) (list_at h)) (sym eh) (holding heads n (fh - 1) new (omega (arith, inside)))
 
     empty : used (list_at heads (fh - 1)) ≡ 0
     empty =
@@ -212,15 +211,17 @@ put_first notes notes' heads heads' fn fh held c owned ns hs side k y none en eh
     before = means notes heads fn fh held owned (fn ∷ ns) (fh ∷ hs) y
 
     new_comments : comments notes' ≡ set (comments notes) (fn - 1) c
-    new_comments = ap comments en ∙ comments_written notes (fn - 1) (record { comment = c; next = 0 })
+    new_comments = ap comments en ∙ comments_written notes (fn - 1) (record { content = c; next = 0 })
 
-    after : Layout (links notes') (head_links heads') (list_at heads') (link_at (links notes) fn) (link_at (head_links heads) fh) (held + 1) owned' ns hs []
+    after : Layout (links notes') (links heads') (list_at heads') (link_at (links notes) fn) (link_at (links heads) fh) (held + 1) owned' ns hs []
     after =
-        moved_layout (set (links notes) (fn - 1) 0) (links notes') (head_links heads) (head_links heads') (list_at heads') (link_at (links notes) fn) (link_at (head_links heads) fh) (held + 1) owned' ns hs []
-        (ap links en ∙ links_written notes (fn - 1) (record { comment = c; next = 0 }))
-        (ap head_links eh ∙ head_links_held heads fh (Some (record { spot = record { side = side; offset = k }; first = fn; last = fn })))
-        (opened (set (links notes) (fn - 1) 0) (head_links heads) (list_at heads) (link_at (links notes) fn) fh (held + 1) owned fh (record { spot = record { side = side; offset = k }; first = fn; last = fn }) (list_at heads') ns hs (fn ∷ [])
+        moved_layout (set (links notes) (fn - 1) 0) (links notes') (set (links heads) (fh - 1) 0) (links heads') (list_at heads') (link_at (links notes) fn) (link_at (links heads) fh) (held + 1) owned' ns hs []
+        (ap links en ∙ links_written notes (fn - 1) (record { content = c; next = 0 }))
+        (ap links eh ∙ links_written heads (fh - 1) new)
+        (relinked_head (set (links notes) (fn - 1) 0) (links heads) (list_at heads') (link_at (links notes) fn) (link_at (links heads) fh) (held + 1) owned' fh 0 ns hs [] sh.0
+        (omega (arith, chain_once (links heads) fh (fh ∷ hs) y.heads fh, is_same fh))
+        (opened (set (links notes) (fn - 1) 0) (links heads) (list_at heads) (link_at (links notes) fn) fh (held + 1) owned fh l (list_at heads') ns hs (fn ∷ [])
         (one_note notes heads fn fh held c owned ns (fh ∷ hs) y side k)
-        (λ i at j q. fresh_by heads side k (record { spot = record { side = side; offset = k }; first = fn; last = fn }) (key_own (record { spot = record { side = side; offset = k }; first = fn; last = fn })) none i at j (omega (arith, r)))
-        (hold (room (length (head_links heads))))
-        (fresh notes heads fn fh held c owned ns (fh ∷ hs) y))
+        (λ i at j q. fresh_by heads side k l (key_own l) none i at j (omega (arith, r)))
+        (hold (room (length (links heads))))
+        (fresh notes heads fn fh held c owned ns (fh ∷ hs) y)))

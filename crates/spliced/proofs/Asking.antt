@@ -9,11 +9,10 @@ use Rattle.std.specs.Option.{option_to_list}
 use Rattle.std.proofs.lemmas.List.{length-map}
 use Rattle.comments.specs.declared.store.Side.{Side}
 use Rattle.chain.specs.Chain.{Chain}
-use Rattle.spliced.specs.declared.notes.Note.{Note}
 use Rattle.spliced.specs.declared.heads.NoteList.{NoteList}
-use Rattle.spliced.specs.declared.heads.Head.{Head}
-use Rattle.spliced.specs.Notes.{links, comments, comment_at}
-use Rattle.spliced.specs.Heads.{key, At, Nowhere, listed}
+use Rattle.spliced.specs.Linked.{links}
+use Rattle.spliced.specs.Notes.{Note, comments, comment_at}
+use Rattle.spliced.specs.Heads.{Head, key, At, Nowhere, listed}
 use Rattle.spliced.specs.Layout.{Laid}
 use Rattle.spliced.proofs.Meaning.{means}
 use Rattle.spliced.proofs.Whole.{fit_at}

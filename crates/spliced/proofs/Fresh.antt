@@ -6,11 +6,10 @@ use Rattle.comments.specs.declared.store.Side.{Side}
 use Rattle.chain.specs.Chain.{room, Chain, times, slots_from}
 use Rattle.chain.proofs.Counting.{is_cases}
 use Rattle.chain.proofs.Laws.{chain_once}
-use Rattle.spliced.specs.declared.notes.Note.{Note}
 use Rattle.spliced.specs.declared.heads.NoteList.{NoteList}
-use Rattle.spliced.specs.declared.heads.Head.{Head}
-use Rattle.spliced.specs.Notes.{links}
-use Rattle.spliced.specs.Heads.{head_links, list_at, key, listed}
+use Rattle.spliced.specs.Linked.{links}
+use Rattle.spliced.specs.Notes.{Note}
+use Rattle.spliced.specs.Heads.{Head, list_at, key, listed}
 use Rattle.spliced.specs.Layout.{Fit, used, Laid}
 use Rattle.spliced.proofs.Meaning.{means}
 
@@ -36,7 +35,7 @@ sum_empty : (f : List ℕ → ℕ) (n : ℕ) → f [] ≡ 0 → sum_by f (replic
 sum_empty f zero z = refl
 sum_empty f (suc n) z = omega (arith, sum_by-cons f [] (replicate n []), sum_empty f n z, z)
 
-pub fresh_laid : (notes : List Note) (heads : List Head) (fn fh n k : ℕ) → n ≡ length notes → k ≡ length heads → Chain (links notes) fn (slots_from 1 (room n)) → Chain (head_links heads) fh (slots_from 1 (room k)) → ((i : ℕ) → i < room k → list_at heads i ≡ None) → Laid notes heads fn fh 0
+pub fresh_laid : (notes : List Note) (heads : List Head) (fn fh n k : ℕ) → n ≡ length notes → k ≡ length heads → Chain (links notes) fn (slots_from 1 (room n)) → Chain (links heads) fh (slots_from 1 (room k)) → ((i : ℕ) → i < room k → list_at heads i ≡ None) → Laid notes heads fn fh 0
 fresh_laid notes heads fn fh n k en ek cn ch none = (
   replicate (room k) [],
   slots_from 1 (room n),
@@ -54,7 +53,7 @@ fresh_laid notes heads fn fh n k en ek cn ch none = (
   },
 )
   where
-    long : room k ≡ room (length (head_links heads))
+    long : room k ≡ room (length (links heads))
     long = ap room (ek ∙ sym (length-map heads (λ (h : Head). h.next)))
 
 -- and it means no comments

@@ -9,11 +9,10 @@ use Rattle.comments.proofs.Parts.{same_sides, same_self}
 use Rattle.chain.specs.Chain.{room, link_at, Chain, times}
 use Rattle.chain.proofs.Counting.{is_same}
 use Rattle.chain.proofs.Laws.{chain_short}
-use Rattle.spliced.specs.declared.notes.Note.{Note}
 use Rattle.spliced.specs.declared.heads.NoteList.{NoteList}
-use Rattle.spliced.specs.declared.heads.Head.{Head}
-use Rattle.spliced.specs.Notes.{links, comments, comment_at}
-use Rattle.spliced.specs.Heads.{head_links, blank, list_at, key, walk, first_of, held, listed}
+use Rattle.spliced.specs.Linked.{links}
+use Rattle.spliced.specs.Notes.{Note, comments, comment_at}
+use Rattle.spliced.specs.Heads.{Head, blank, list_at, key, walk, first_of, held, listed}
 use Rattle.spliced.specs.Layout.{Fit, Layout}
 
 pub record Means (cs : List ℕ) (n : ℕ) (ls : ℕ → Option NoteList) (owned : List (List ℕ)) (f : Lists) : Type 0 where
@@ -41,29 +40,29 @@ fit_walk m (Some l) ks side k e f =
 -- the first head that holds the list
 held_at : (cs m : List ℕ) (hs : List Head) (i : ℕ) (side : Side) (k : ℕ) → i < length hs → key side k (list_at hs i) ≡ true → ((j : ℕ) → j < i → key side k (list_at hs j) ≡ false) → held cs m hs side k ≡ map (comment_at cs) (walk (length m) m (first_of (list_at hs i)))
 held_at cs m [] i side k l e none = absurd (omega arith)
-held_at cs m (h ∷ hs) zero side k l e none = cond-true (key side k h.list) (map (comment_at cs) (walk (length m) m (first_of h.list))) (held cs m hs side k) e
+held_at cs m (h ∷ hs) zero side k l e none = cond-true (key side k h.content) (map (comment_at cs) (walk (length m) m (first_of h.content))) (held cs m hs side k) e
 held_at cs m (h ∷ hs) (suc i) side k l e none =
-    cond-false (key side k h.list) (map (comment_at cs) (walk (length m) m (first_of h.list))) (held cs m hs side k) (none 0 (omega arith))
+    cond-false (key side k h.content) (map (comment_at cs) (walk (length m) m (first_of h.content))) (held cs m hs side k) (none 0 (omega arith))
     ∙ held_at cs m hs i side k (omega arith) e (λ j q. none (suc j) (omega arith))
 
 held_none : (cs m : List ℕ) (hs : List Head) (side : Side) (k : ℕ) → ((i : ℕ) → i < length hs → key side k (list_at hs i) ≡ false) → held cs m hs side k ≡ []
 held_none cs m [] side k none = refl
 held_none cs m (h ∷ hs) side k none =
-    cond-false (key side k h.list) (map (comment_at cs) (walk (length m) m (first_of h.list))) (held cs m hs side k) (none 0 (omega arith))
+    cond-false (key side k h.content) (map (comment_at cs) (walk (length m) m (first_of h.content))) (held cs m hs side k) (none 0 (omega arith))
     ∙ held_none cs m hs side k (λ i q. none (suc i) (omega arith))
 
 -- the records mean what their layout says
-pub means : (notes : List Note) (heads : List Head) (fn fh n : ℕ) (owned : List (List ℕ)) (ns hs : List ℕ) → Layout (links notes) (head_links heads) (list_at heads) fn fh n owned ns hs [] → Means (comments notes) (room (length heads)) (list_at heads) owned (listed notes heads)
+pub means : (notes : List Note) (heads : List Head) (fn fh n : ℕ) (owned : List (List ℕ)) (ns hs : List ℕ) → Layout (links notes) (links heads) (list_at heads) fn fh n owned ns hs [] → Means (comments notes) (room (length heads)) (list_at heads) owned (listed notes heads)
 means notes heads fn fh n owned ns hs y = record { located = there; missing = nowhere }
   where
-    same_room : room (length (head_links heads)) ≡ room (length heads)
+    same_room : room (length (links heads)) ≡ room (length heads)
     same_room = ap room (length-map heads (λ (h : Head). h.next))
 
     long : length (take (room (length heads)) heads) ≡ room (length heads)
     long = omega (arith, length-take (room (length heads)) heads)
 
     front : (i : ℕ) → i < room (length heads) → list_at (take (room (length heads)) heads) i ≡ list_at heads i
-    front i q = ap (λ (h : Head). h.list) (get_or-take (room (length heads)) heads i blank q)
+    front i q = ap (λ (h : Head). h.content) (get_or-take (room (length heads)) heads i blank q)
 
     there : (i : ℕ) (side : Side) (k : ℕ) → i < room (length heads) → key side k (list_at heads i) ≡ true → listed notes heads side k ≡ map (comment_at (comments notes)) (get_or owned i [])
     there i side k q e =

@@ -300,3 +300,24 @@ module _ (m hm : List ℕ) (ls : ℕ → Option NoteList) (fn fh held : ℕ) (ow
       once_s i e =
           subst (λ (j : ℕ). times (j + 1) hs + used (ls' j) ≡ 1) (sym e)
           (omega (arith, y.once s lt, ap used here, ap used to.0))
+
+-- a head that is not among the unused may lead anywhere
+pub relinked_head : (m hm : List ℕ) (ls : ℕ → Option NoteList) (fn fh held : ℕ) (owned : List (List ℕ)) (x v : ℕ) (ns hs loose : List ℕ) → 0 < x → times x hs ≡ 0 → Layout m hm ls fn fh held owned ns hs loose → Layout m (set hm (x - 1) v) ls fn fh held owned ns hs loose
+relinked_head m hm ls fn fh held owned x v ns hs loose p off y =
+    record {
+      wide = y.wide ∙ ap room (sym same);
+      each = λ i q. y.each i (within i q);
+      notes = y.notes;
+      apart = y.apart;
+      heads = chain_past hm fh x v hs p off y.heads;
+      once = λ i q. y.once i (within i q);
+      keys = λ i j side k q r. y.keys i j side k (within i q) (within j r);
+      counted = y.counted;
+      total = y.total;
+    }
+  where
+    same : length (set hm (x - 1) v) ≡ length hm
+    same = length-set hm (x - 1) v
+
+    within : (i : ℕ) → i < room (length (set hm (x - 1) v)) → i < room (length hm)
+    within i q = omega (arith, same)

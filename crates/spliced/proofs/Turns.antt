@@ -1,18 +1,17 @@
 -- The steps of a call put together, over plain values.
-use Rattle.std.proofs.Common.{◌≡◌, ℕ, ◌+◌, ◌-◌, ◌<◌, min, List, [], ◌∷◌, length, get_or, set, Some, None, Option, sym, refl, ap, ◌∙◌, subst, arith, length-set}
+use Rattle.std.proofs.Common.{◌≡◌, ℕ, ◌+◌, ◌-◌, ◌<◌, min, List, [], ◌∷◌, length, set, Some, None, Option, sym, refl, ap, ◌∙◌, subst, arith, length-set}
 use Rattle.comments.specs.declared.store.Side.{Side}
 use Rattle.comments.specs.declared.store.Spot.{Spot}
 use Rattle.comments.specs.declared.store.Side.TheVariants.{Leading, Trailing}
 use Rattle.comments.specs.Lists.{shifted, added}
 use Rattle.chain.specs.Chain.{room, Slot, link_at, Chain, Off, times, relinked, Beyond}
-use Rattle.chain.proofs.Records.{beyond_set, beyond_more}
-use Rattle.spliced.specs.declared.notes.Note.{Note}
+use Rattle.chain.proofs.Records.{beyond_set}
 use Rattle.spliced.specs.declared.heads.NoteList.{NoteList}
-use Rattle.spliced.specs.declared.heads.Head.{Head}
-use Rattle.spliced.specs.Notes.{links, linked_note}
-use Rattle.spliced.specs.Heads.{head_links, blank, list_at, with_list, At, Nowhere, front_of, listed}
+use Rattle.spliced.specs.Linked.{links}
+use Rattle.spliced.specs.Notes.{Note, linked_note}
+use Rattle.spliced.specs.Heads.{Head, list_at, with_list, At, Nowhere, front_of, listed}
 use Rattle.spliced.specs.Layout.{Layout, Laid}
-use Rattle.spliced.proofs.Records.{head_links_held}
+use Rattle.spliced.proofs.Records.{links_held}
 use Rattle.spliced.proofs.Whole.{slot_from, none_from, last_note, not_unused, free_note, free_head}
 use Rattle.spliced.proofs.Calls.{relabelled_all, joined_all}
 use Rattle.spliced.proofs.Adding.{put_last, put_first}
@@ -20,11 +19,6 @@ use Rattle.spliced.proofs.Adding.{put_last, put_first}
 -- a write at a slot leaves the records that have none
 pub beyond_written : {X : Type 0} (s t : List X) (k : ℕ) (x : X) → Slot (length s) k → t ≡ set s (k - 1) x → Beyond s t
 beyond_written s t k x h e = subst (λ (u : List _). Beyond s u) (sym e) (beyond_set s k x h)
-
-pub beyond_twice : {X : Type 0} (s t u : List X) (k j : ℕ) (x y : X) → Slot (length s) k → Slot (length s) j → t ≡ set s (k - 1) x → u ≡ set t (j - 1) y → Beyond s u
-beyond_twice s t u k j x y p q e d =
-    let a : Beyond s t = beyond_written s t k x p e in
-    beyond_more s t u a (beyond_written t u j y (subst (λ (n : ℕ). Slot n j) (sym a.0) q) d)
 
 -- where a list was sought at a spot, it was sought on a side and at an offset
 pub found_at : (heads : List Head) (spot : Spot) (side : Side) (k slot : ℕ) (l : NoteList) → spot ≡ record { side = side; offset = k } → At heads spot.side spot.offset slot l → At heads side k slot l
@@ -43,16 +37,12 @@ front_slot notes heads fn fh held side from to sh th a b l p q e h =
     ends Trailing u v = v
 
 -- the head of a list that was found may be given back, also after another head was written
-pub may_give_back : (notes : List Note) (heads heads₁ : List Head) (fn fh fh₁ held : ℕ) (side : Side) (from sh th : ℕ) (a : NoteList) (o : Option NoteList) → At heads side from sh a → heads₁ ≡ with_list heads th o → fh₁ ≡ fh → ∥ Laid notes heads fn fh held ∥₁ → Off (head_links heads₁) fh₁ sh
+pub may_give_back : (notes : List Note) (heads heads₁ : List Head) (fn fh fh₁ held : ℕ) (side : Side) (from sh th : ℕ) (a : NoteList) (o : Option NoteList) → At heads side from sh a → heads₁ ≡ with_list heads th o → fh₁ ≡ fh → ∥ Laid notes heads fn fh held ∥₁ → Off (links heads₁) fh₁ sh
 may_give_back notes heads heads₁ fn fh fh₁ held side from sh th a o p e d h ks c =
     none_from (times sh ks) h
     (λ y. not_unused notes heads fn fh held side from sh a p y ks
-    (subst (λ (x : ℕ). Chain (head_links heads) x ks) d
-    (subst (λ (m : List ℕ). Chain m fh₁ ks) (ap head_links e ∙ head_links_held heads th o) c)))
-
-pub still_slot : (heads heads₁ : List Head) (k th : ℕ) (o : Option NoteList) → heads₁ ≡ with_list heads th o → Slot (length heads) k → Slot (length heads₁) k
-still_slot heads heads₁ k th o e s =
-    subst (λ (n : ℕ). Slot n k) (sym (ap length e ∙ length-set heads (th - 1) (record { list = o; next = (get_or heads (th - 1) blank).next }))) s
+    (subst (λ (x : ℕ). Chain (links heads) x ks) d
+    (subst (λ (m : List ℕ). Chain m fh₁ ks) (ap links e ∙ links_held heads th o) c)))
 
 -- a list relabelled, the chain of unused heads as it was
 pub relabel :
@@ -92,7 +82,7 @@ pub join_both :
     → notes' ≡ relinked linked_note notes front.last back.first d
     → heads₁ ≡ with_list heads th (Some (record { spot = b.spot; first = front.first; last = back.last }))
     → fh₁ ≡ fh
-    → heads' ≡ set heads₁ (sh - 1) (record { list = None; next = fh₁ })
+    → heads' ≡ set heads₁ (sh - 1) (record { content = None; next = fh₁ })
     → fn' ≡ fn
     → fh' ≡ sh
     → Laid notes heads fn fh held
@@ -102,7 +92,7 @@ join_both notes notes' heads heads₁ heads' fn fn' fh fh₁ fh' held side from 
     joined_all notes notes' heads heads₁ heads' fn fh held side from to sh th a b (record { spot = b.spot; first = front.first; last = back.last }) d ne source target (ap (λ (l : NoteList). l.first) ef) (ap (λ (l : NoteList). l.last) eb) refl
     (en ∙ ap (λ (l : NoteList). relinked linked_note notes l.last back.first d) ef ∙ ap (λ (l : NoteList). relinked linked_note notes (front_of side a b).last l.first d) eb)
     e₁
-    (e' ∙ ap (λ (x : ℕ). set heads₁ (sh - 1) (record { list = None; next = x })) d₁)
+    (e' ∙ ap (λ (x : ℕ). set heads₁ (sh - 1) (record { content = None; next = x })) d₁)
     p
     in (
       subst (λ (x : ℕ). Laid notes' heads' x fh' held) (sym dn) (subst (λ (x : ℕ). Laid notes' heads' fn x held) (sym dh) q.0),
@@ -147,7 +137,7 @@ pub grow :
     → At heads side k th b
     → note ≡ fn
     → fn₁ ≡ link_at (links notes) note
-    → notes₁ ≡ set notes (note - 1) (record { comment = c; next = 0 })
+    → notes₁ ≡ set notes (note - 1) (record { content = c; next = 0 })
     → notes' ≡ relinked linked_note notes₁ b.last note d
     → fn' ≡ fn₁
     → heads' ≡ with_list heads th (Some (record { spot = b.spot; first = b.first; last = note }))
@@ -157,12 +147,12 @@ pub grow :
 grow notes notes₁ notes' heads heads' fn fn₁ fn' fh fh' held note side k th c b d r found e d₁ e₁ e' d' eh dh p =
     let s = free_note notes heads fn fh held (omega arith) p in
     let f = first_of_chain (links notes) fn p.1 s.0 p.3.notes in
-    let y : Layout (links notes) (head_links heads) (list_at heads) fn fh held p.0 (fn ∷ f.0) p.2 [] =
-    subst (λ (ks : List ℕ). Layout (links notes) (head_links heads) (list_at heads) fn fh held p.0 ks p.2 []) f.1 p.3
+    let y : Layout (links notes) (links heads) (list_at heads) fn fh held p.0 (fn ∷ f.0) p.2 [] =
+    subst (λ (ks : List ℕ). Layout (links notes) (links heads) (list_at heads) fn fh held p.0 ks p.2 []) f.1 p.3
     in
     let q =
     put_last notes heads fn fh held c p.0 f.0 p.2 y notes' heads' side k th b (record { spot = b.spot; first = b.first; last = note }) d found refl e refl
-    (e' ∙ ap (λ (s : List Note). relinked linked_note s b.last note d) (e₁ ∙ ap (λ (x : ℕ). set notes (x - 1) (record { comment = c; next = 0 })) e) ∙ ap (λ (x : ℕ). relinked linked_note (set notes (fn - 1) (record { comment = c; next = 0 })) b.last x d) e)
+    (e' ∙ ap (λ (s : List Note). relinked linked_note s b.last note d) (e₁ ∙ ap (λ (x : ℕ). set notes (x - 1) (record { content = c; next = 0 })) e) ∙ ap (λ (x : ℕ). relinked linked_note (set notes (fn - 1) (record { content = c; next = 0 })) b.last x d) e)
     eh
     in (
       subst (λ (x : ℕ). Laid notes' heads' x fh' (held + 1)) (sym (d' ∙ d₁ ∙ ap (link_at (links notes)) e)) (subst (λ (x : ℕ). Laid notes' heads' (link_at (links notes) fn) x (held + 1)) (sym dh) q.0),
@@ -180,24 +170,24 @@ pub begin :
     → Nowhere heads side k
     → note ≡ fn
     → fn' ≡ link_at (links notes) note
-    → notes' ≡ set notes (note - 1) (record { comment = c; next = 0 })
-    → heads' ≡ with_list heads fh (Some (record { spot = record { side = side; offset = k }; first = note; last = note }))
-    → fh' ≡ link_at (head_links heads) fh
+    → notes' ≡ set notes (note - 1) (record { content = c; next = 0 })
+    → heads' ≡ set heads (fh - 1) (record { content = Some (record { spot = record { side = side; offset = k }; first = note; last = note }); next = 0 })
+    → fh' ≡ link_at (links heads) fh
     → Laid notes heads fn fh held
     → Laid notes' heads' fn' fh' (held + 1) × ((at : Side) (j : ℕ) → listed notes' heads' at j ≡ added (listed notes heads) side k c at j)
 begin notes notes' heads heads' fn fn' fh fh' held note side k c r none e d' e' eh dh p =
     let s = free_note notes heads fn fh held (omega arith) p in
     let t = free_head notes heads fn fh held (omega arith) p in
     let f = first_of_chain (links notes) fn p.1 s.0 p.3.notes in
-    let g = first_of_chain (head_links heads) fh p.2 t.0 p.3.heads in
-    let y : Layout (links notes) (head_links heads) (list_at heads) fn fh held p.0 (fn ∷ f.0) (fh ∷ g.0) [] =
-    subst (λ (ks : List ℕ). Layout (links notes) (head_links heads) (list_at heads) fn fh held p.0 (fn ∷ f.0) ks []) g.1
-    (subst (λ (ks : List ℕ). Layout (links notes) (head_links heads) (list_at heads) fn fh held p.0 ks p.2 []) f.1 p.3)
+    let g = first_of_chain (links heads) fh p.2 t.0 p.3.heads in
+    let y : Layout (links notes) (links heads) (list_at heads) fn fh held p.0 (fn ∷ f.0) (fh ∷ g.0) [] =
+    subst (λ (ks : List ℕ). Layout (links notes) (links heads) (list_at heads) fn fh held p.0 (fn ∷ f.0) ks []) g.1
+    (subst (λ (ks : List ℕ). Layout (links notes) (links heads) (list_at heads) fn fh held p.0 ks p.2 []) f.1 p.3)
     in
     let q =
     put_first notes notes' heads heads' fn fh held c p.0 f.0 g.0 side k y none
-    (e' ∙ ap (λ (x : ℕ). set notes (x - 1) (record { comment = c; next = 0 })) e)
-    (eh ∙ ap (λ (x : ℕ). with_list heads fh (Some (record { spot = record { side = side; offset = k }; first = x; last = x }))) e)
+    (e' ∙ ap (λ (x : ℕ). set notes (x - 1) (record { content = c; next = 0 })) e)
+    (eh ∙ ap (λ (x : ℕ). set heads (fh - 1) (record { content = Some (record { spot = record { side = side; offset = k }; first = x; last = x }); next = 0 })) e)
     in (
       subst (λ (x : ℕ). Laid notes' heads' x fh' (held + 1)) (sym (d' ∙ ap (link_at (links notes)) e)) (subst (λ (x : ℕ). Laid notes' heads' (link_at (links notes) fn) x (held + 1)) (sym dh) q.0),
       q.1,

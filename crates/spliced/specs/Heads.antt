@@ -1,6 +1,6 @@
 -- The records of lists.
 --
---   head_links s    the links of the records
+--   Head            the record of a list
 --   list_at s i     what the record at index i holds: a list, or none where the record is unused
 --   with_list s k o  the records s, that of slot k holding o
 --   key side k o    whether o is the list on a side at the offset k
@@ -16,22 +16,22 @@ use Rattle.comments.specs.declared.store.Side.{Side}
 use Rattle.comments.specs.declared.store.Side.TheVariants.{Leading, Trailing}
 use Rattle.comments.specs.Lists.{same, Lists}
 use Rattle.chain.specs.Chain.{room, Slot, link_at}
-use Rattle.spliced.specs.declared.notes.Note.{Note}
 use Rattle.spliced.specs.declared.heads.NoteList.{NoteList}
-use Rattle.spliced.specs.declared.heads.Head.{Head}
-use Rattle.spliced.specs.Notes.{links, comments, comment_at}
+use Rattle.spliced.specs.declared.linked.Linked.{Linked}
+use Rattle.spliced.specs.Linked.{links}
+use Rattle.spliced.specs.Notes.{Note, comments, comment_at}
 
-abbrev pub head_links : List Head → List ℕ
-head_links s = map (λ h. h.next) s
+abbrev pub Head : Type 0
+Head = Linked (Option NoteList)
 
 abbrev pub blank : Head
-blank = record { list = None; next = 0 }
+blank = record { content = None; next = 0 }
 
 abbrev pub list_at : List Head → ℕ → Option NoteList
-list_at s i = (slice_index_or s i blank).list
+list_at s i = (slice_index_or s i blank).content
 
 abbrev pub with_list : List Head → ℕ → Option NoteList → List Head
-with_list s k o = slice_set s (k - 1) (record { list = o; next = (slice_index_or s (k - 1) blank).next })
+with_list s k o = slice_set s (k - 1) (record { content = o; next = (slice_index_or s (k - 1) blank).next })
 
 abbrev pub key : Side → ℕ → Option NoteList → Bool
 key side k None = false
@@ -62,7 +62,7 @@ first_of (Some l) = l.first
 abbrev pub held : List ℕ → List ℕ → List Head → Lists
 held cs m [] side k = []
 held cs m (h ∷ hs) side k =
-    cond (key side k h.list) (map (comment_at cs) (walk (length m) m (first_of h.list))) (held cs m hs side k)
+    cond (key side k h.content) (map (comment_at cs) (walk (length m) m (first_of h.content))) (held cs m hs side k)
 
 abbrev pub listed : List Note → List Head → Lists
 listed notes heads = held (comments notes) (links notes) (take (room (length heads)) heads)

@@ -12,11 +12,10 @@
 use Rattle.std.specs.Prelude.{◌≡◌, ℕ, ◌+◌, ◌<◌, ◌≤◌, true, List, [], ◌∷◌, ◌++◌, length, Some, None, sum_by, Option, slice_index_or}
 use Rattle.comments.specs.declared.store.Side.{Side}
 use Rattle.chain.specs.Chain.{room, Chain, times}
-use Rattle.spliced.specs.declared.notes.Note.{Note}
 use Rattle.spliced.specs.declared.heads.NoteList.{NoteList}
-use Rattle.spliced.specs.declared.heads.Head.{Head}
-use Rattle.spliced.specs.Notes.{links}
-use Rattle.spliced.specs.Heads.{head_links, list_at, key}
+use Rattle.spliced.specs.Linked.{links}
+use Rattle.spliced.specs.Notes.{Note}
+use Rattle.spliced.specs.Heads.{Head, list_at, key}
 
 abbrev pub Fit : List ℕ → Option NoteList → List ℕ → Type 0
 Fit m None ks = ks ≡ []
@@ -46,4 +45,4 @@ Idle s n = (n ≤ room (length s)) × ((i : ℕ) → n ≤ i → i < room (lengt
 
 abbrev pub Laid : List Note → List Head → ℕ → ℕ → ℕ → Type 0
 Laid notes heads fn fh held =
-    (owned : List (List ℕ)) × (ns : List ℕ) × (hs : List ℕ) × Layout (links notes) (head_links heads) (list_at heads) fn fh held owned ns hs []
+    (owned : List (List ℕ)) × (ns : List ℕ) × (hs : List ℕ) × Layout (links notes) (links heads) (list_at heads) fn fh held owned ns hs []

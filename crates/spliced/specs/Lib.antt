@@ -1,3 +1,4 @@
+pub mod Linked
 pub mod Notes
 pub mod Heads
 pub mod Layout

@@ -2,6 +2,7 @@
 #![tactic(auto)]
 
 mod heads;
+mod linked;
 mod notes;
 mod store;
 

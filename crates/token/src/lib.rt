@@ -30,7 +30,7 @@ pub enum Code {
 }
 
 impl Code {
-    /// Whether this is the code `other`.
+    /// Whether this is the code `other`: what `==` answers, by the definition that contracts cite.
     pub fn same(self, other: Code) -> bool
         ensures { result ≡ same_code self other }
     {

@@ -63,7 +63,7 @@ pub enum Operator {
 }
 
 impl Operator {
-    /// Whether this is the operator `other`.
+    /// Whether this is the operator `other`: what `==` answers, by the definition that contracts cite.
     pub fn same(self, other: Operator) -> bool
         ensures { result ≡ eqb (operator_rank self) (operator_rank other) }
     {
@@ -110,7 +110,7 @@ pub enum AssignOperator {
 }
 
 impl AssignOperator {
-    /// Whether this is the operator `other`.
+    /// Whether this is the operator `other`: what `==` answers, by the definition that contracts cite.
     pub fn same(self, other: AssignOperator) -> bool
         ensures { result ≡ eqb (assign_rank self) (assign_rank other) }
     {

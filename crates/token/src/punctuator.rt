@@ -36,7 +36,7 @@ pub enum Punctuator {
 }
 
 impl Punctuator {
-    /// Whether this is the punctuator `other`.
+    /// Whether this is the punctuator `other`: what `==` answers, by the definition that contracts cite.
     pub fn same(self, other: Punctuator) -> bool
         ensures { result ≡ eqb (punctuator_rank self) (punctuator_rank other) }
     {

@@ -48,7 +48,7 @@ pub enum Word {
 }
 
 impl Word {
-    /// Whether this is the word `other`.
+    /// Whether this is the word `other`: what `==` answers, by the definition that contracts cite.
     pub fn same(self, other: Word) -> bool
         ensures { result ≡ eqb (word_rank self) (word_rank other) }
     {

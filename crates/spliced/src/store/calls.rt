@@ -1,6 +1,6 @@
 // The calls of this store alone: making one, and asking how many more comments it holds.
 ghost use Rattle.std.specs.Prelude.{◌≡◌, ℕ, min, [], length};
-ghost use Rattle.chain.specs.Chain.{room, Beyond};
+ghost use Rattle.chain.specs.Chain.{room, Beyond, SameLoan};
 ghost use Rattle.comments.specs.declared.store.Side.{Side};
 ghost use Rattle.spliced.specs.Store.{lists_in, spare};
 
@@ -14,7 +14,7 @@ impl<'a> Spliced<'a> {
         ensures empty { (side : Side) (k : ℕ) → lists_in result side k ≡ [] }
         ensures spare { spare result ≡ min (room (length notes.old)) (room (length heads.old)) }
         ensures beyond { (Beyond notes.old result.notes.slots.now) × (Beyond heads.old result.heads.slots.now) }
-        ensures lender { (result.notes.slots.ghost_name ≡ notes.entry.ghost_name) × (result.heads.slots.ghost_name ≡ heads.entry.ghost_name) }
+        ensures lender { SameLoan notes.entry result.notes.slots × SameLoan heads.entry result.heads.slots }
     {
         Spliced {
             notes: Notes::new(notes),
@@ -27,7 +27,7 @@ impl<'a> Spliced<'a> {
     pub fn spare(&self) -> u16
         ensures { result ≡ spare self.now }
     {
-        let most = self.notes.last_slot().min(self.heads.last_slot());
+        let most = chain::last_slot(self.notes.slots).min(chain::last_slot(self.heads.slots));
         most.saturating_sub(self.held)
     }
 }

@@ -1,6 +1,6 @@
 // The lists of comments as chains of notes: how they grow, how they are joined, and what they hold.
 ghost use Rattle.std.specs.Prelude.{◌≡◌, ℕ, OnErr};
-ghost use Rattle.chain.specs.Chain.{Beyond};
+ghost use Rattle.chain.specs.Chain.{Beyond, SameLoan};
 ghost use Rattle.comments.specs.declared.store.Side.{Side};
 ghost use Rattle.comments.specs.Filling.{Fills};
 ghost use Rattle.comments.specs.Lists.{shifted};
@@ -21,7 +21,7 @@ impl<'a> Store for Spliced<'a> {
         ensures fills { Fills (lists_in self.old) (lists_in self.new) (spare self.old) (spare self.new) spot.side spot.offset comment result }
         ensures same { OnErr result (self.new ≡ self.old) }
         ensures beyond { (Beyond self.old.notes.slots.now self.new.notes.slots.now) × (Beyond self.old.heads.slots.now self.new.heads.slots.now) }
-        ensures lender { (self.new.notes.slots.ghost_name ≡ self.old.notes.slots.ghost_name) × (self.new.heads.slots.ghost_name ≡ self.old.heads.slots.ghost_name) }
+        ensures lender { SameLoan self.old.notes.slots self.new.notes.slots × SameLoan self.old.heads.slots self.new.heads.slots }
     {
         if self.spare() == 0 {
             return Err(Refusal::TooFewRecords { needed: 1 });
@@ -50,7 +50,7 @@ impl<'a> Store for Spliced<'a> {
         ensures moved { (at : Side) (k : ℕ) → lists_in self.new at k ≡ shifted side (lists_in self.old) from to at k }
         ensures vacant { spare self.new ≡ spare self.old }
         ensures beyond { (Beyond self.old.notes.slots.now self.new.notes.slots.now) × (Beyond self.old.heads.slots.now self.new.heads.slots.now) }
-        ensures lender { (self.new.notes.slots.ghost_name ≡ self.old.notes.slots.ghost_name) × (self.new.heads.slots.ghost_name ≡ self.old.heads.slots.ghost_name) }
+        ensures lender { SameLoan self.old.notes.slots self.new.notes.slots × SameLoan self.old.heads.slots self.new.heads.slots }
     {
         if from == to {
             return;

@@ -1,5 +1,6 @@
 // Making a pool, and the question how many of its records are free.
 ghost use Rattle.std.specs.Prelude.{◌≡◌, ℕ, List, length};
+ghost use Rattle.chain.specs.Chain.{SameLoan};
 ghost use Rattle.toolkit.specs.Ledger.{Entry, Ledger};
 ghost use Rattle.toolkit.specs.Pools.{held};
 ghost use Rattle.toolkit.specs.Calls.{Fresh};
@@ -11,7 +12,7 @@ impl<'a> Pool<'a> {
     /// A pool with all records free. A caller gives no two pools in use one number.
     pub fn new(slots: &'a mut [Record], number: u16) -> Self
         ensures fresh { Fresh number slots.old (held result) }
-        ensures lender { result.store.slots.ghost_name ≡ slots.entry.ghost_name }
+        ensures lender { SameLoan slots.entry result.store.slots }
     {
         Pool {
             store: Store::new(slots),

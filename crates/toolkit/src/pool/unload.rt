@@ -1,5 +1,6 @@
 // Giving back a whole tree.
 ghost use Rattle.std.specs.Prelude.{◌≡◌};
+ghost use Rattle.chain.specs.Chain.{SameLoan};
 ghost use Rattle.toolkit.specs.Keys.{key};
 ghost use Rattle.toolkit.specs.Pools.{held};
 ghost use Rattle.toolkit.specs.Calls.{Unload, HandsBack, answer};
@@ -13,7 +14,7 @@ impl<'a> Pool<'a> {
     pub fn unload(&mut self, tree: Tree) -> Result<(), Returned<Tree>>
         ensures outcome { Unload (held self.old) (key tree) (answer result) (held self.new) }
         ensures given { HandsBack result tree }
-        ensures lender { self.new.store.slots.ghost_name ≡ self.old.store.slots.ghost_name }
+        ensures lender { SameLoan self.old.store.slots self.new.store.slots }
     {
         let key = tree.key();
         if !self.owns(key) {
