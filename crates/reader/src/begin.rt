@@ -182,13 +182,8 @@ fn statement(ahead: &[Token]) -> Rest
     ensures { do_of result ≡ stm_do ahead.now }
 {
     match peek(ahead) {
-        Some(code) => {
-            if opens(code) && begins_otherwise(code) {
-                Rest::Plain
-            } else {
-                statement_code(code)
-            }
-        }
+        Some(code) if opens(code) && begins_otherwise(code) => Rest::Plain,
+        Some(code) => statement_code(code),
         None => Rest::Fail,
     }
 }

@@ -64,7 +64,7 @@ impl<'a> Store<'a> {
     pub fn nest(&mut self, head: Head, children: Children) -> u16
         ensures row { (s : List Record) (from last : ℕ) (us : Forest) → Stands s from self.old.slots.now self.old.free children.first last us
             → Stands s from self.new.slots.now self.new.free result result (rooted head us ▸ nil) }
-        ensures lender { self.new.slots.ghost_name ≡ self.old.slots.ghost_name }
+        ensures lender { SameLoan self.old.slots self.new.slots }
     {
         build::nest(self.slots, &mut self.free, head, children.first)
     }
@@ -73,7 +73,7 @@ impl<'a> Store<'a> {
     pub fn push(&mut self, children: Children, child: u16) -> Children
         ensures row { (s t : List Record) (from free : ℕ) (us : Forest) (v : Tree) → Stands s from t free children.first children.last us → Stands t free self.old.slots.now self.old.free child child (v ▸ nil)
             → Stands s from self.new.slots.now self.new.free result.first result.last (us ⊕ (v ▸ nil)) }
-        ensures lender { self.new.slots.ghost_name ≡ self.old.slots.ghost_name }
+        ensures lender { SameLoan self.old.slots self.new.slots }
     {
         children.push(self.slots, child)
     }
