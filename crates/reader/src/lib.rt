@@ -1,5 +1,5 @@
-// The reader: one grammar in code, as a table of what is left to read of a record, and where what is read goes. The walk over it
-// is the recognizer's.
+// The reader: one grammar in code, as a table of what is left to read of a record, and where what is read goes. The walk
+// over it is the recognizer's.
 #![tactic(auto)]
 
 pub mod begin;

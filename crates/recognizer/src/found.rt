@@ -7,8 +7,8 @@ use records::Children;
 use token::Token;
 
 /// A tree that was read: what the place where it stands can ask of it, whether in each of its records the children fit, its
-/// root's place, the tokens behind it, the number of the records below its root, how deep these nest, and
-/// where the sink keeps it.
+/// root's place, the tokens behind it, the number of the records below its root, how deep these nest, and where the sink
+/// keeps it.
 #[derive(Clone, Copy)]
 pub struct Found<'a> {
     pub traits: Traits,
@@ -23,7 +23,8 @@ pub struct Found<'a> {
 }
 
 /// A record's children as far as they are read: what is kept of them, whether the children fit in each record below, where
-/// the record begins and where the last token read ends, the tokens behind it, the number and nesting of the children's records, and the row that they stand in.
+/// the record begins and where the last token read ends, the tokens behind it, the number and nesting of the children's
+/// records, and the row that they stand in.
 #[derive(Clone, Copy)]
 pub struct Parts<'a> {
     pub children: Summary,
