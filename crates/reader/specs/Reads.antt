@@ -1,82 +1,20 @@
--- What the functions of the reader promise, over the reader of the grammar.
+-- What the reader of the grammar answers, and what a refusal says of it.
 --
 --   Reads b q ks t r      from some bound on, the grammar's reader finds t for the goal q at ks, and r follows
 --   Runs b s h ks y       from some bound on, it completes the record of which s is left to do, with y
---   Shape t f, Holds us p, Shaped us f     what is kept of a tree, of children, of a record over children
+--   own s                 how many tokens of its own each run of s eats, at the least: 1 or 0
 --   Bad e room d          what a refusal says of a tree of the depth d, where room is allowed
---   Parsed NotParsed Made NotMade     the promises of the two functions that call each other
---   Carried Climbed       what holds in their loops
+--   NotParsed ks b q room e     what it says of all that the grammar's reader may find at ks
+--   graft us o            what o answers, with the children us before its own
 --
 -- Assumes nothing.
-use Rattle.std.specs.Prelude.{◌≡◌, ℕ, ◌+◌, ◌<◌, ◌≤◌, max, Bool, true, false, cond, ◌&&◌, List, ◌∷◌, length, Some, None, Option as OptionR, ◌==◌}
+use Rattle.std.specs.Prelude.{◌≡◌, ℕ, ◌<◌, ◌≤◌, Bool, true, false, cond, ◌&&◌, List}
 use Rattle.std.proofs.Math.Option.{Option, none, some}
 use Rattle.token.specs.declared.Token.{Token}
-use Rattle.token.specs.declared.Code.{Code}
-use Rattle.token.specs.Same.{same_code}
-use Rattle.kinds.specs.Levels.{Standing, standing, is_c, is_target}
-use Rattle.kinds.specs.declared.form.Form.{Form}
-use Rattle.grammar.specs.Site.{Attr, sort_rank}
-use Rattle.grammar.specs.Tree.{head, head_of, Tree, Forest, node, nil, ◌▸◌, ◌⊕◌, size, sizes, depth, depths}
-use Rattle.grammar.specs.Layout.{attr, attrs, sort_of, first_standing}
-use Rattle.grammar.specs.Derives.{lo_of}
-use Rattle.grammar.specs.Parser.{Goal, Do, fail, fin, eat, sub, peek, more, items, stms, operand, names, behind, Ran, ran, parse, loop, perform, goes_on, frame, next, starts}
-use Rattle.reader.specs.Table.{view}
-use Rattle.reader.specs.Rows.{single}
-use Rattle.reader.specs.declared.sink.Row.{Row}
-use Rattle.reader.specs.declared.found.Found.{Found}
-use Rattle.reader.specs.declared.found.Parts.{Parts}
-use Rattle.reader.specs.declared.tree.Unread.{Unread}
-use Rattle.reader.specs.declared.tree.Unread.TheVariants.{NoDerivation, TooDeep}
-
-abbrev pub standing_of : Found → Standing
-standing_of f = standing f.form f.over_call f.over_target
-
-abbrev pub Expr : Form → Bool
-Expr f = 0 == sort_rank (sort_of f)
-
-pub record Started (ts : List Token) (i : ℕ) (r : Row) (p : Parts) : Type 0 where
-  pub childless : p.childless ≡ true
-  pub call : p.over_call ≡ false
-  pub target : p.over_target ≡ false
-  pub lo : p.lo ≡ lo_of (view ts i)
-  pub hi : p.hi ≡ 0
-  pub end : p.end ≡ i
-  pub records : p.size ≡ 0
-  pub nests : p.depth ≡ 0
-  pub row : p.row ≡ r
-
-pub record Alone (f : Found) (p : Parts) : Type 0 where
-  pub childless : p.childless ≡ false
-  pub call : p.over_call ≡ is_c (standing_of f)
-  pub target : p.over_target ≡ is_target (standing_of f)
-  pub lo : p.lo ≡ f.lo
-  pub hi : p.hi ≡ f.hi
-  pub end : p.end ≡ f.end
-  pub records : p.size ≡ f.below + 1
-  pub nests : p.depth ≡ f.under + 1
-  pub row : p.row ≡ single f.slot
-
-pub record Joined (p : Parts) (f : Found) (r : Row) (q : Parts) : Type 0 where
-  pub childless : q.childless ≡ false
-  pub call : q.over_call ≡ cond p.childless (is_c (standing_of f)) p.over_call
-  pub target : q.over_target ≡ cond p.childless (is_target (standing_of f)) p.over_target
-  pub lo : q.lo ≡ p.lo
-  pub hi : q.hi ≡ f.hi
-  pub end : q.end ≡ f.end
-  pub records : q.size ≡ p.size + f.below + 1
-  pub nests : q.depth ≡ max p.depth (f.under + 1)
-  pub row : q.row ≡ r
-
-pub record Completed (p : Parts) (g : Form) (n : ℕ) (f : Found) : Type 0 where
-  pub form : f.form ≡ g
-  pub call : f.over_call ≡ p.over_call
-  pub target : f.over_target ≡ p.over_target
-  pub lo : f.lo ≡ p.lo
-  pub hi : f.hi ≡ p.hi
-  pub end : f.end ≡ p.end
-  pub slot : f.slot ≡ n
-  pub records : f.below ≡ p.size
-  pub nests : f.under ≡ p.depth
+use Rattle.grammar.specs.Tree.{Tree, Forest, ◌⊕◌, depth}
+use Rattle.grammar.specs.Parser.{Goal, Do, fail, fin, eat, sub, peek, more, items, stms, operand, names, behind, Ran, ran, parse, perform}
+use Rattle.reader.specs.declared.unread.Unread.{Unread}
+use Rattle.reader.specs.declared.unread.Unread.TheVariants.{NoDerivation, TooDeep}
 
 -- Does every run of s eat a token of its own?
 abbrev pub eats : Do → Bool
@@ -101,100 +39,13 @@ Reads b q ks t r = (k : ℕ) × ((m : ℕ) → k ≤ m → parse m b q ks ≡ so
 abbrev pub Runs : Bool → Do → ℕ → List Token → Ran → Type 0
 Runs b s h ks y = (k : ℕ) × ((m : ℕ) → k ≤ m → perform m b s h ks ≡ some y)
 
-abbrev pub no_kids : Forest → Bool
-no_kids nil = true
-no_kids (u ▸ us) = false
-
-pub record Shape (t : Tree) (f : Found) : Type 0 where
-  pub heads : head_of t ≡ head f.form f.lo f.hi
-  pub sort : (attr t).sort ≡ sort_of f.form
-  pub stands : (attr t).standing ≡ standing_of f
-  pub records : size t ≡ 1 + f.below
-  pub nests : depth t ≡ 1 + f.under
-
-pub record Holds (us : Forest) (p : Parts) : Type 0 where
-  pub childless : no_kids us ≡ p.childless
-  pub call : is_c (first_standing (attrs us)) ≡ p.over_call
-  pub target : is_target (first_standing (attrs us)) ≡ p.over_target
-  pub records : sizes us ≡ p.size
-  pub nests : depths us ≡ p.depth
-
-pub record Shaped (us : Forest) (f : Found) : Type 0 where
-  pub call : is_c (first_standing (attrs us)) ≡ f.over_call
-  pub target : is_target (first_standing (attrs us)) ≡ f.over_target
-  pub records : sizes us ≡ f.below
-  pub nests : depths us ≡ f.under
-
 abbrev pub Bad : Unread → ℕ → ℕ → Type 0
 Bad NoDerivation room d = ⊥
 Bad TooDeep room d = room < d
 
-pub record Parsed {K : Type 0} (ts : List Token) (i : ℕ) (b : Bool) (q : Goal) (R : K → K → Row → Forest → Type 0) (e x : K) (f : Found) : Type 0 where
-  pub few : i + f.below < f.end
-  pub nests : f.under ≤ f.below
-  pub within : f.end ≤ length ts
-  pub tree : (t : Tree) × Shape t f × Reads b q (view ts i) t (view ts f.end) × R x e (single f.slot) (t ▸ nil)
-
-abbrev pub NotParsed : List Token → ℕ → Bool → Goal → ℕ → Unread → Type 0
-NotParsed ts i b q room e = (n : ℕ) (t : Tree) (r : List Token) → parse n b q (view ts i) ≡ some (t, r) → Bad e room (depth t)
-
-pub record Made {K : Type 0} (ts : List Token) (b : Bool) (s : Do) (p : Parts) (R : K → K → Row → Forest → Type 0) (e x : K) (f : Found) : Type 0 where
-  pub few : f.below + p.end + own s ≤ p.size + f.end
-  pub nests : f.under ≤ f.below
-  pub within : f.end ≤ length ts
-  pub lo : f.lo ≡ p.lo
-  pub run : (us : Forest) × Runs b s p.hi (view ts p.end) (ran f.form us f.hi (view ts f.end)) × ((ws : Forest) → Holds ws p → Shaped (ws ⊕ us) f)
-  pub rows : (z : K) (ws : Forest) → R e z p.row ws → R x z (single f.slot) (node (head f.form f.lo f.hi) (ws ⊕ run.0) ▸ nil)
-
-abbrev pub NotMade : List Token → Bool → Do → Parts → ℕ → Unread → Type 0
-NotMade ts b s p room e = (n : ℕ) (y : Ran) → perform n b s p.hi (view ts p.end) ≡ some y → Bad e room (depths y.kids)
+abbrev pub NotParsed : List Token → Bool → Goal → ℕ → Unread → Type 0
+NotParsed ks b q room e = (n : ℕ) (t : Tree) (r : List Token) → parse n b q ks ≡ some (t, r) → Bad e room (depth t)
 
 abbrev pub graft : Forest → Option Ran → Option Ran
 graft us none = none
 graft us (some y) = some (ran y.form (us ⊕ y.kids) y.upto y.left)
-
--- Since the loop began at p0 with s0 to do: the children us have come, and s is left to do at p.
-pub record Carried {K : Type 0} (ts : List Token) (b : Bool) (s0 : Do) (p0 : Parts) (R : K → K → Row → Forest → Type 0) (e x : K) (s : Do) (p : Parts) : Type 0 where
-  pub few : p.size + p0.end + own s0 ≤ p0.size + p.end + own s
-  pub fewer : p.size + p0.end ≤ p0.size + p.end
-  pub nests : p.depth ≤ p.size
-  pub within : p.end ≤ length ts
-  pub lo : p.lo ≡ p0.lo
-  pub run : (us : Forest) × ((ws : Forest) → Holds ws p0 → Holds (ws ⊕ us) p) × ((k : ℕ) × ((m : ℕ) → k ≤ m → (n : ℕ) × (m ≤ n) × (perform n b s0 p0.hi (view ts p0.end) ≡ graft us (perform m b s p.hi (view ts p.end)))))
-  pub rows : (z : K) (ws : Forest) → R e z p0.row ws → R x z p.row (ws ⊕ run.0)
-
--- What the grammar's reader finds at i is what it finds behind the tree so far.
-pub record Reached {K : Type 0} (ts : List Token) (i : ℕ) (b : Bool) (q : Goal) (R : K → K → Row → Forest → Type 0) (e x : K) (f : Found) : Type 0 where
-  pub few : i + f.below < f.end
-  pub nests : f.under ≤ f.below
-  pub within : f.end ≤ length ts
-  pub tree : (t : Tree) × Shape t f × ((k : ℕ) × ((m : ℕ) → k ≤ m → (n : ℕ) × (m ≤ n) × (parse n b q (view ts i) ≡ loop m b q t (view ts f.end))))
-  pub rows : R x e (single f.slot) (tree.0 ▸ nil)
-
--- Since the loop began, with f0: what the grammar's reader finds behind f0 is what it finds behind the tree so far.
-pub record Climbed {K : Type 0} (ts : List Token) (i : ℕ) (b : Bool) (q : Goal) (R : K → K → Row → Forest → Type 0) (e x : K) (f0 f : Found) : Type 0 where
-  pub few : i + f.below < f.end
-  pub nests : f.under ≤ f.below
-  pub within : f.end ≤ length ts
-  pub tree : (t0 : Tree) → Shape t0 f0 → (t : Tree) × Shape t f × ((k : ℕ) × ((m : ℕ) → k ≤ m → (n : ℕ) × (m ≤ n) × (loop n b q t0 (view ts f0.end) ≡ loop m b q t (view ts f.end)))) × ((z : K) → R e z (single f0.slot) (t0 ▸ nil) → R x z (single f.slot) (t ▸ nil))
-
--- Whether a tree of the shape f goes on behind f.
-abbrev pub Onward : List Token → Bool → Goal → Found → Bool → Type 0
-Onward ts b q f r = (a : Attr) → a.sort ≡ sort_of f.form → a.standing ≡ standing_of f → r ≡ goes_on b q a (frame (next (view ts f.end)))
-
--- The parts p behind the token c, if it is the next.
-pub record Behind (ts : List Token) (p : Parts) (c : Code) (q : Parts) : Type 0 where
-  pub next : (k : Token) × (view ts p.end ≡ k ∷ view ts (p.end + 1)) × (same_code k.code c ≡ true) × (q.hi ≡ k.hi)
-  pub within : p.end < length ts
-  pub end : q.end ≡ p.end + 1
-  pub childless : q.childless ≡ p.childless
-  pub call : q.over_call ≡ p.over_call
-  pub target : q.over_target ≡ p.over_target
-  pub lo : q.lo ≡ p.lo
-  pub records : q.size ≡ p.size
-  pub nests : q.depth ≡ p.depth
-  pub row : q.row ≡ p.row
-
-abbrev pub Eaten : List Token → Parts → Code → OptionR Parts → Type 0
-Eaten ts p c None = starts c (view ts p.end) ≡ false
-Eaten ts p c (Some q) = Behind ts p c q

@@ -1,12 +1,13 @@
 -- What the code's tables stand for in the reader of the grammar.
 --
---   view ts i     the tokens of ts from the one at i on
+--   Peeked ks c   c is the code of the first token of ks, if there is one
 --   goal_of mode_of do_of     the goal, the mode, and what is left to do, that a value of the code stands for
 --   to_do         the next thing to do
 --   turn_of       what a token does behind an expression
+--   linked        the form of a member or a call
 --
 -- Assumes nothing.
-use Rattle.std.specs.Prelude.{◌≡◌, ℕ, ◌+◌, ◌<◌, Bool, true, false, T, List, [], ◌∷◌, length, drop, Some, None, Option}
+use Rattle.std.specs.Prelude.{◌≡◌, Bool, true, false, T, List, [], ◌∷◌, Some, None, Option}
 use Rattle.token.specs.declared.Token.{Token}
 use Rattle.token.specs.declared.Code.{Code}
 use Rattle.kinds.specs.declared.form.Form.{Form}
@@ -14,6 +15,7 @@ use Rattle.kinds.specs.declared.form.Form.TheVariants as form
 use Rattle.kinds.specs.declared.form.Key.TheVariants as key
 use Rattle.kinds.specs.declared.form.Own.TheVariants as own
 use Rattle.kinds.specs.declared.form.Arguments.TheVariants as arguments
+use Rattle.kinds.specs.declared.form.Link.{Link}
 use Rattle.kinds.specs.declared.form.Link.TheVariants as link
 use Rattle.kinds.specs.declared.form.Entry.TheVariants as entry
 use Rattle.kinds.specs.declared.level.Slot.TheVariants as slot
@@ -40,18 +42,10 @@ use Rattle.reader.specs.declared.turn.Turn.TheVariants as turn
 use Rattle.reader.specs.declared.step.Step.{Step}
 use Rattle.reader.specs.declared.step.Step.TheVariants as step
 
--- The tokens from i on.
-unfoldable pub view : List Token → ℕ → List Token
-view ts i = drop i ts
-
--- The token at i, if there is one; its code.
-abbrev pub Stands : List Token → ℕ → Option Token → Type 0
-Stands ts i None = view ts i ≡ []
-Stands ts i (Some k) = (i < length ts) × (view ts i ≡ k ∷ view ts (i + 1))
-
-abbrev pub Peeked : List Token → ℕ → Option Code → Type 0
-Peeked ts i None = view ts i ≡ []
-Peeked ts i (Some c) = (i < length ts) × ((k : Token) × (k.code ≡ c) × (view ts i ≡ k ∷ view ts (i + 1)))
+-- The code of the first token, if there is one.
+abbrev pub Peeked : List Token → Option Code → Type 0
+Peeked ks None = ks ≡ []
+Peeked ks (Some c) = (k : Token) × (r : List Token) × (k.code ≡ c) × (ks ≡ k ∷ r)
 
 abbrev pub goal_of : Goal → parser.Goal
 goal_of (Expression p) = parser.ex p
@@ -207,6 +201,13 @@ turn_of turn.Calls = parser.calls
 turn_of turn.Links = parser.links
 turn_of turn.Ends = parser.ends
 turn_of turn.Cannot = parser.cannot
+
+-- The form of a member or a call, as a tail of an optional chain or outside of one.
+abbrev pub linked : Link → Bool → Form
+linked l true = form.Chain l entry.Tail
+linked link.Name false = form.Member key.Fixed
+linked link.Key false = form.Member key.Computed
+linked link.Call false = form.Call
 
 -- What is left to do behind an expression of any standing that is, or is not, a link of an optional chain.
 abbrev pub Turns : parser.After → Bool → Do → Type 0

@@ -1,22 +1,16 @@
--- What is promised of a whole script.
+-- What is said of a whole script.
 --
 --   plain s          in what is left to do, no child is read as a script
---   Scripted ts f    the grammar's reader finds a script in ts, of the shape f and at most 512 deep, with nothing left over; no other
---                    tree can be a reading of ts; the sink has it
 --   NotScript ts e   ts has no reading; or it has 500 tokens or more, and every reading is deeper than 512
 --
 -- Assumes nothing.
-use Rattle.std.specs.Prelude.{◌≡◌, ℕ, ◌<◌, ◌≤◌, Bool, true, false, cond, ◌&&◌, List, [], length, nat_lt}
+use Rattle.std.specs.Prelude.{ℕ, ◌<◌, ◌≤◌, Bool, true, false, cond, ◌&&◌, List, length, nat_lt}
 use Rattle.token.specs.declared.Token.{Token}
-use Rattle.grammar.specs.Tree.{Tree, Forest, nil, ◌▸◌, depth}
+use Rattle.grammar.specs.Tree.{Tree, depth}
 use Rattle.grammar.specs.Claim as claim
 use Rattle.grammar.specs.Parser.{Goal, ex, stm, blk, dec, prp, nam, scr, Do, fail, fin, eat, sub, peek, more, items, stms, operand, names, behind}
-use Rattle.reader.specs.Reads.{Reads, Shape}
-use Rattle.reader.specs.Rows.{single}
-use Rattle.reader.specs.declared.sink.Row.{Row}
-use Rattle.reader.specs.declared.found.Found.{Found}
-use Rattle.reader.specs.declared.tree.Unread.{Unread}
-use Rattle.reader.specs.declared.tree.Unread.TheVariants.{NoDerivation, TooDeep}
+use Rattle.reader.specs.declared.unread.Unread.{Unread}
+use Rattle.reader.specs.declared.unread.Unread.TheVariants.{NoDerivation, TooDeep}
 
 abbrev pub not_script : Goal → Bool
 not_script (ex p) = true
@@ -39,9 +33,6 @@ plain (stms s) = plain s
 plain (operand s t) = plain s && plain t
 plain (names s) = plain s
 plain (behind s) = plain s
-
-pub record Scripted {K : Type 0} (ts : List Token) (R : K → K → Row → Forest → Type 0) (e x : K) (f : Found) : Type 0 where
-  pub tree : (t : Tree) × Shape t f × (depth t ≤ 512) × Reads true scr ts t [] × ((u : Tree) → claim.Reads ts u → u ≡ t) × R x e (single f.slot) (t ▸ nil)
 
 abbrev pub NotScript : List Token → Unread → Type 0
 NotScript ts NoDerivation = (t : Tree) → claim.Reads ts t → ⊥

@@ -1,55 +1,33 @@
-// Looks at the tokens, without eating one.
+// Looks at the tokens ahead, those that are not read yet, without eating one.
 
 ghost use Rattle.std.specs.Prelude.{◌≡◌, ◌≤◌, length};
 ghost use Rattle.grammar.specs.Parser.{starts, at_stop, first_opens, opens, skip};
 ghost use Rattle.grammar.specs.Codes.{arrow};
-ghost use Rattle.reader.specs.Table.{view, Stands, Peeked};
+ghost use Rattle.reader.specs.Table.{Peeked};
 
 use token::{Code, Operator, Punctuator, Token, Word};
 
-/// The token at `at`, if there is one.
-pub fn token_at(tokens: &[Token], at: usize) -> Option<Token>
-    requires { at ≤ length tokens.now }
-    ensures { Stands tokens.now at result }
+/// The code of the next token, if there is one.
+pub fn peek(ahead: &[Token]) -> Option<Code>
+    ensures { Peeked ahead.now result }
 {
-    if at < tokens.len() {
-        Some(tokens[at])
-    } else {
-        None
-    }
+    ahead.first().map(|token| token.code)
 }
 
-/// The code of the token at `at`, if there is one.
-pub fn peek(tokens: &[Token], at: usize) -> Option<Code>
-    requires { at ≤ length tokens.now }
-    ensures { Peeked tokens.now at result }
+/// Whether the next token is `code`.
+#[tactic(auto, using(token::proofs::Derived::same_derived))]
+pub fn sees(ahead: &[Token], code: Code) -> bool
+    ensures { result ≡ starts code ahead.now }
 {
-    match token_at(tokens, at) {
-        Some(token) => Some(token.code),
-        None => None,
-    }
+    peek(ahead).is_some_and(|found| found == code)
 }
 
-/// Whether the token at `at` is `code`.
-pub fn sees(tokens: &[Token], at: usize, code: Code) -> bool
-    requires { at ≤ length tokens.now }
-    ensures { result ≡ starts code (view tokens.now at) }
+/// Whether the statements end here: the tokens do, or there is a `}`.
+#[tactic(auto, using(token::proofs::Derived::same_derived))]
+pub fn at_stop(ahead: &[Token]) -> bool
+    ensures { result ≡ at_stop ahead.now }
 {
-    match peek(tokens, at) {
-        Some(found) => found.same(code),
-        None => false,
-    }
-}
-
-/// Whether the statements end at `at`: the tokens do, or there is a `}`.
-pub fn at_stop(tokens: &[Token], at: usize) -> bool
-    requires { at ≤ length tokens.now }
-    ensures { result ≡ at_stop (view tokens.now at) }
-{
-    match peek(tokens, at) {
-        Some(code) => code.same(Code::Punctuator(Punctuator::CloseBrace)),
-        None => true,
-    }
+    peek(ahead).is_none_or(|code| code == Code::Punctuator(Punctuator::CloseBrace))
 }
 
 /// Whether a token of this code can begin an expression.
@@ -89,31 +67,27 @@ pub fn opens(code: Code) -> bool
     }
 }
 
-/// Whether an expression can begin at `at`.
-pub fn opens_at(tokens: &[Token], at: usize) -> bool
-    requires { at ≤ length tokens.now }
-    ensures { result ≡ first_opens (view tokens.now at) }
+/// Whether an expression can begin here.
+pub fn opens_at(ahead: &[Token]) -> bool
+    ensures { result ≡ first_opens ahead.now }
 {
-    match peek(tokens, at) {
-        Some(code) => opens(code),
-        None => false,
-    }
+    peek(ahead).is_some_and(opens)
 }
 
-/// Whether `=>` follows the `)` that closes the parenthesis whose inside begins at `at`.
-pub fn arrow_behind(tokens: &[Token], at: usize) -> bool
-    requires { at ≤ length tokens.now }
-    ensures { result ≡ starts arrow (skip 0 (view tokens.now at)) }
+/// Whether `=>` follows the `)` that closes the parenthesis whose inside is ahead.
+#[tactic(auto, using(token::proofs::Derived::same_derived))]
+pub fn arrow_behind(ahead: &[Token]) -> bool
+    ensures { result ≡ starts arrow (skip 0 ahead.now) }
 {
     let mut open: usize = 0;
-    let mut i = at;
-    while let Some(code) = peek(tokens, i) {
-        i += 1;
-        if code.same(Code::Punctuator(Punctuator::OpenParen)) {
+    let mut rest = ahead;
+    while let Some((token, behind)) = rest.split_first() {
+        rest = behind;
+        if token.code == Code::Punctuator(Punctuator::OpenParen) {
             open += 1;
-        } else if code.same(Code::Punctuator(Punctuator::CloseParen)) {
+        } else if token.code == Code::Punctuator(Punctuator::CloseParen) {
             if open == 0 {
-                return sees(tokens, i, Code::Punctuator(Punctuator::Arrow));
+                return sees(behind, Code::Punctuator(Punctuator::Arrow));
             }
             open -= 1;
         }

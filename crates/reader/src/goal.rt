@@ -1,5 +1,9 @@
 // What a child is read for, and whether an `in` may stand in the open in it.
 
+ghost use Rattle.std.specs.Prelude.{◌≡◌};
+ghost use Rattle.grammar.specs.Parser.{mode as mode_in};
+ghost use Rattle.reader.specs.Table.{mode_of};
+
 use kinds::Slot;
 
 /// What is to be read.
@@ -25,4 +29,15 @@ pub enum Mode {
     Free,
     /// Never: the child begins the head of a `for`.
     Shut,
+}
+
+/// Whether an `in` may stand in the open in a child.
+pub fn allowed(mode: Mode, allow_in: bool) -> bool
+    ensures { result ≡ mode_in (mode_of mode) allow_in }
+{
+    match mode {
+        Mode::Same => allow_in,
+        Mode::Free => true,
+        Mode::Shut => false,
+    }
 }

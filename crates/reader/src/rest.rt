@@ -41,6 +41,7 @@ pub enum Declared {
 }
 
 /// What is left to read of a record.
+// A value and no closure: a closure that is kept has to be boxed, which needs a heap.
 #[derive(Clone, Copy)]
 pub enum Rest {
     /// Nothing begins so.

@@ -1,9 +1,9 @@
 // The next step of a record: which token or child comes next, or that it is complete.
 
-ghost use Rattle.std.specs.Prelude.{◌≡◌, ◌≤◌, length};
+ghost use Rattle.std.specs.Prelude.{◌≡◌};
 ghost use Rattle.grammar.specs.Parser.{settle};
 ghost use Rattle.reader.specs.declared.rest.Rest.TheVariants.{MoreNames, Link as LinkRest, ForInit};
-ghost use Rattle.reader.specs.Table.{view, do_of, to_do, part_of, open_of, close_of, behind_of, parts_of, more_of, body_end, tested_word, tested_end, var_end};
+ghost use Rattle.reader.specs.Table.{do_of, to_do, part_of, open_of, close_of, behind_of, parts_of, more_of, body_end, tested_word, tested_end, var_end};
 
 use crate::glance::{at_stop, opens_at, sees};
 use crate::goal::{Goal, Mode};
@@ -70,22 +70,22 @@ fn behind_list(list: List) -> Rest
     }
 }
 
-fn items(tokens: &[Token], at: usize, list: List) -> Step
-    requires { at ≤ length tokens.now }
-    ensures { to_do result ≡ settle (parts_of list) (view tokens.now at) }
+/// A list behind its opening bracket.
+fn items(ahead: &[Token], list: List) -> Step
+    ensures { to_do result ≡ settle (parts_of list) ahead.now }
 {
-    if sees(tokens, at, close(list)) {
+    if sees(ahead, close(list)) {
         Step::Eat(close(list), behind_list(list))
     } else {
         Step::Read(Mode::Free, part(list), Rest::More(list))
     }
 }
 
-fn more(tokens: &[Token], at: usize, list: List) -> Step
-    requires { at ≤ length tokens.now }
-    ensures { to_do result ≡ settle (more_of list) (view tokens.now at) }
+/// A list behind one of its parts.
+fn more(ahead: &[Token], list: List) -> Step
+    ensures { to_do result ≡ settle (more_of list) ahead.now }
 {
-    if sees(tokens, at, Code::Punctuator(Punctuator::Comma)) {
+    if sees(ahead, Code::Punctuator(Punctuator::Comma)) {
         Step::Eat(Code::Punctuator(Punctuator::Comma), Rest::Next(list))
     } else {
         Step::Eat(close(list), behind_list(list))
@@ -119,11 +119,10 @@ fn var_end(declared: Declared) -> Step
 }
 
 /// Behind a Name of a Var, with its value if it has one.
-fn more_names(tokens: &[Token], at: usize, declared: Declared) -> Step
-    requires { at ≤ length tokens.now }
-    ensures { to_do result ≡ settle (do_of (MoreNames declared)) (view tokens.now at) }
+fn more_names(ahead: &[Token], declared: Declared) -> Step
+    ensures { to_do result ≡ settle (do_of (MoreNames declared)) ahead.now }
 {
-    if sees(tokens, at, Code::Punctuator(Punctuator::Comma)) {
+    if sees(ahead, Code::Punctuator(Punctuator::Comma)) {
         Step::Eat(Code::Punctuator(Punctuator::Comma), Rest::Names(declared))
     } else {
         var_end(declared)
@@ -151,16 +150,15 @@ fn behind_body(tested: Tested) -> Rest
 }
 
 /// A link of an optional chain, behind its `?.`.
-fn link(tokens: &[Token], at: usize) -> Step
-    requires { at ≤ length tokens.now }
-    ensures { to_do result ≡ settle (do_of LinkRest) (view tokens.now at) }
+fn link(ahead: &[Token]) -> Step
+    ensures { to_do result ≡ settle (do_of LinkRest) ahead.now }
 {
-    if sees(tokens, at, Code::Punctuator(Punctuator::OpenParen)) {
+    if sees(ahead, Code::Punctuator(Punctuator::OpenParen)) {
         Step::Eat(
             Code::Punctuator(Punctuator::OpenParen),
             Rest::Items(List::Arguments(Form::Chain(Link::Call, Entry::Optional))),
         )
-    } else if sees(tokens, at, Code::Punctuator(Punctuator::OpenBracket)) {
+    } else if sees(ahead, Code::Punctuator(Punctuator::OpenBracket)) {
         Step::Eat(
             Code::Punctuator(Punctuator::OpenBracket),
             Rest::Closed(
@@ -179,16 +177,15 @@ fn link(tokens: &[Token], at: usize) -> Step
 }
 
 /// A `for`, behind its `(`.
-fn for_init(tokens: &[Token], at: usize) -> Step
-    requires { at ≤ length tokens.now }
-    ensures { to_do result ≡ settle (do_of ForInit) (view tokens.now at) }
+fn for_init(ahead: &[Token]) -> Step
+    ensures { to_do result ≡ settle (do_of ForInit) ahead.now }
 {
-    if sees(tokens, at, Code::Punctuator(Punctuator::Semicolon)) {
+    if sees(ahead, Code::Punctuator(Punctuator::Semicolon)) {
         Step::Eat(
             Code::Punctuator(Punctuator::Semicolon),
             Rest::ForTest(false),
         )
-    } else if sees(tokens, at, Code::Word(Word::Var)) {
+    } else if sees(ahead, Code::Word(Word::Var)) {
         Step::Read(Mode::Shut, Goal::Declaration, Rest::ForHead)
     } else {
         Step::Read(
@@ -199,10 +196,9 @@ fn for_init(tokens: &[Token], at: usize) -> Step
     }
 }
 
-/// The next step of what is left to read, at `at`.
-pub fn next_step(tokens: &[Token], at: usize, rest: Rest) -> Step
-    requires { at ≤ length tokens.now }
-    ensures { to_do result ≡ settle (do_of rest) (view tokens.now at) }
+/// The next step of what is left to read, by the next token.
+pub fn next_step(ahead: &[Token], rest: Rest) -> Step
+    ensures { to_do result ≡ settle (do_of rest) ahead.now }
 {
     match rest {
         Rest::Fail => Step::Fail,
@@ -216,12 +212,12 @@ pub fn next_step(tokens: &[Token], at: usize, rest: Rest) -> Step
             Rest::Closed(goal, code, form),
         ),
         Rest::Open(list) => Step::Eat(open(list), Rest::Items(list)),
-        Rest::Items(list) => items(tokens, at, list),
-        Rest::More(list) => more(tokens, at, list),
+        Rest::Items(list) => items(ahead, list),
+        Rest::More(list) => more(ahead, list),
         Rest::Next(list) => Step::Read(Mode::Free, part(list), Rest::More(list)),
         Rest::ArrowSign => Step::Eat(Code::Punctuator(Punctuator::Arrow), Rest::ArrowBody),
         Rest::ArrowBody => {
-            if sees(tokens, at, Code::Punctuator(Punctuator::OpenBrace)) {
+            if sees(ahead, Code::Punctuator(Punctuator::OpenBrace)) {
                 Step::Read(Mode::Free, Goal::Block, Rest::Done(Form::Arrow))
             } else {
                 Step::Read(
@@ -233,7 +229,7 @@ pub fn next_step(tokens: &[Token], at: usize, rest: Rest) -> Step
         }
         Rest::Function => Step::Eat(Code::Word(Word::Function), Rest::FunctionHead),
         Rest::FunctionHead => {
-            if sees(tokens, at, Code::Punctuator(Punctuator::OpenParen)) {
+            if sees(ahead, Code::Punctuator(Punctuator::OpenParen)) {
                 Step::Eat(
                     Code::Punctuator(Punctuator::OpenParen),
                     Rest::Items(List::Parameters(Own::Nameless)),
@@ -249,7 +245,7 @@ pub fn next_step(tokens: &[Token], at: usize, rest: Rest) -> Step
         Rest::New => Step::Eat(Code::Word(Word::New), Rest::NewCallee),
         Rest::NewCallee => Step::Read(Mode::Same, Goal::Expression(Slot::New), Rest::NewArguments),
         Rest::NewArguments => {
-            if sees(tokens, at, Code::Punctuator(Punctuator::OpenParen)) {
+            if sees(ahead, Code::Punctuator(Punctuator::OpenParen)) {
                 Step::Eat(
                     Code::Punctuator(Punctuator::OpenParen),
                     Rest::Items(List::Arguments(Form::New(Arguments::Listed))),
@@ -260,7 +256,7 @@ pub fn next_step(tokens: &[Token], at: usize, rest: Rest) -> Step
         }
         Rest::Yield => Step::Eat(Code::Word(Word::Yield), Rest::YieldOperand),
         Rest::YieldOperand => {
-            if opens_at(tokens, at) {
+            if opens_at(ahead) {
                 Step::Read(
                     Mode::Same,
                     Goal::Expression(Slot::Assignment),
@@ -277,7 +273,7 @@ pub fn next_step(tokens: &[Token], at: usize, rest: Rest) -> Step
             Rest::MoreElements,
         ),
         Rest::MoreElements => {
-            if sees(tokens, at, Code::Punctuator(Punctuator::Comma)) {
+            if sees(ahead, Code::Punctuator(Punctuator::Comma)) {
                 Step::Eat(Code::Punctuator(Punctuator::Comma), Rest::Element)
             } else {
                 Step::Finish(Form::Seq)
@@ -295,13 +291,13 @@ pub fn next_step(tokens: &[Token], at: usize, rest: Rest) -> Step
             ),
         ),
         Rest::OptionalSign => Step::Eat(Code::Punctuator(Punctuator::QuestionDot), Rest::Link),
-        Rest::Link => link(tokens, at),
+        Rest::Link => link(ahead),
         Rest::Block => Step::Eat(
             Code::Punctuator(Punctuator::OpenBrace),
             Rest::Statements(Body::Block),
         ),
         Rest::Statements(body) => {
-            if at_stop(tokens, at) {
+            if at_stop(ahead) {
                 body_end(body)
             } else {
                 Step::Read(Mode::Free, Goal::Statement, Rest::Statements(body))
@@ -329,7 +325,7 @@ pub fn next_step(tokens: &[Token], at: usize, rest: Rest) -> Step
         }
         Rest::TestBody(tested) => Step::Read(Mode::Free, Goal::Statement, behind_body(tested)),
         Rest::Else => {
-            if sees(tokens, at, Code::Word(Word::Else)) {
+            if sees(ahead, Code::Word(Word::Else)) {
                 Step::Eat(
                     Code::Word(Word::Else),
                     Rest::Last(Mode::Free, Goal::Statement, Form::If),
@@ -340,7 +336,7 @@ pub fn next_step(tokens: &[Token], at: usize, rest: Rest) -> Step
         }
         Rest::Return => Step::Eat(Code::Word(Word::Return), Rest::ReturnValue),
         Rest::ReturnValue => {
-            if sees(tokens, at, Code::Punctuator(Punctuator::Semicolon)) {
+            if sees(ahead, Code::Punctuator(Punctuator::Semicolon)) {
                 Step::Eat(
                     Code::Punctuator(Punctuator::Semicolon),
                     Rest::Done(Form::Return),
@@ -359,7 +355,7 @@ pub fn next_step(tokens: &[Token], at: usize, rest: Rest) -> Step
             Rest::PlainEnd,
         ),
         Rest::PlainEnd => {
-            if sees(tokens, at, Code::Punctuator(Punctuator::Colon)) {
+            if sees(ahead, Code::Punctuator(Punctuator::Colon)) {
                 Step::Eat(
                     Code::Punctuator(Punctuator::Colon),
                     Rest::Last(Mode::Free, Goal::Statement, Form::Labeled),
@@ -373,9 +369,9 @@ pub fn next_step(tokens: &[Token], at: usize, rest: Rest) -> Step
         }
         Rest::For => Step::Eat(Code::Word(Word::For), Rest::ForOpen),
         Rest::ForOpen => Step::Eat(Code::Punctuator(Punctuator::OpenParen), Rest::ForInit),
-        Rest::ForInit => for_init(tokens, at),
+        Rest::ForInit => for_init(ahead),
         Rest::ForHead => {
-            if sees(tokens, at, Code::Word(Word::In)) {
+            if sees(ahead, Code::Word(Word::In)) {
                 Step::Eat(Code::Word(Word::In), Rest::ForObject)
             } else {
                 Step::Eat(Code::Punctuator(Punctuator::Semicolon), Rest::ForTest(true))
@@ -392,7 +388,7 @@ pub fn next_step(tokens: &[Token], at: usize, rest: Rest) -> Step
             ),
         ),
         Rest::ForTest(init) => {
-            if sees(tokens, at, Code::Punctuator(Punctuator::Semicolon)) {
+            if sees(ahead, Code::Punctuator(Punctuator::Semicolon)) {
                 Step::Eat(
                     Code::Punctuator(Punctuator::Semicolon),
                     Rest::ForUpdate(init, false),
@@ -412,7 +408,7 @@ pub fn next_step(tokens: &[Token], at: usize, rest: Rest) -> Step
             )
         }
         Rest::ForUpdate(init, test) => {
-            if sees(tokens, at, Code::Punctuator(Punctuator::CloseParen)) {
+            if sees(ahead, Code::Punctuator(Punctuator::CloseParen)) {
                 Step::Eat(
                     Code::Punctuator(Punctuator::CloseParen),
                     Rest::Last(
@@ -443,7 +439,7 @@ pub fn next_step(tokens: &[Token], at: usize, rest: Rest) -> Step
             }
         }
         Rest::Property => {
-            if sees(tokens, at, Code::Punctuator(Punctuator::OpenBracket)) {
+            if sees(ahead, Code::Punctuator(Punctuator::OpenBracket)) {
                 Step::Eat(Code::Punctuator(Punctuator::OpenBracket), Rest::ComputedKey)
             } else {
                 Step::Read(
@@ -475,13 +471,13 @@ pub fn next_step(tokens: &[Token], at: usize, rest: Rest) -> Step
         Rest::Var(declared) => Step::Eat(Code::Word(Word::Var), Rest::Names(declared)),
         Rest::Names(declared) => Step::Read(Mode::Free, Goal::Name, Rest::Bound(declared)),
         Rest::Bound(declared) => {
-            if sees(tokens, at, Code::AssignOperator(AssignOperator::Assign)) {
+            if sees(ahead, Code::AssignOperator(AssignOperator::Assign)) {
                 Step::Eat(
                     Code::AssignOperator(AssignOperator::Assign),
                     Rest::Value(declared),
                 )
             } else {
-                more_names(tokens, at, declared)
+                more_names(ahead, declared)
             }
         }
         Rest::Value(declared) => {
@@ -491,6 +487,6 @@ pub fn next_step(tokens: &[Token], at: usize, rest: Rest) -> Step
                 Rest::MoreNames(declared),
             )
         }
-        Rest::MoreNames(declared) => more_names(tokens, at, declared),
+        Rest::MoreNames(declared) => more_names(ahead, declared),
     }
 }

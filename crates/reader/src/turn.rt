@@ -1,10 +1,8 @@
 // What a token does behind an expression.
 
-ghost use Rattle.std.specs.Prelude.{◌≡◌, ◌≤◌, length, if◌then◌else◌};
+ghost use Rattle.std.specs.Prelude.{◌≡◌};
 ghost use Rattle.grammar.specs.Parser.{after, next, word_after, punctuator_after, operator_after, frame, binary_frame, first_slot, is_frame};
-ghost use Rattle.kinds.specs.Levels.{right_slot};
-ghost use Rattle.grammar.specs.Codes.{binary_code, update_code};
-ghost use Rattle.reader.specs.Table.{view, turn_of, do_of, Turns, Grows};
+ghost use Rattle.reader.specs.Table.{linked, turn_of, do_of, Turns, Grows};
 
 use crate::glance::peek;
 use crate::goal::{Goal, Mode};
@@ -110,81 +108,20 @@ pub fn turn_of(code: Code) -> Turn
     }
 }
 
-/// What the token at `at` does behind an expression; the end of the tokens ends it.
-pub fn turn_at(tokens: &[Token], at: usize) -> Turn
-    requires { at ≤ length tokens.now }
-    ensures { turn_of result ≡ next (view tokens.now at) }
+/// What the next token does behind an expression; the end of the tokens ends it.
+pub fn turn_at(ahead: &[Token]) -> Turn
+    ensures { turn_of result ≡ next ahead.now }
 {
-    match peek(tokens, at) {
-        Some(code) => turn_of(code),
-        None => Turn::Ends,
-    }
-}
-
-/// The token of a binary operator.
-pub fn binary_code(operator: BinaryOperator) -> Code
-    ensures { result ≡ binary_code operator }
-{
-    match operator {
-        BinaryOperator::Coalesce => Code::Operator(Operator::Coalesce),
-        BinaryOperator::Or => Code::Operator(Operator::Or),
-        BinaryOperator::And => Code::Operator(Operator::And),
-        BinaryOperator::BitOr => Code::Operator(Operator::BitOr),
-        BinaryOperator::BitXor => Code::Operator(Operator::BitXor),
-        BinaryOperator::BitAnd => Code::Operator(Operator::BitAnd),
-        BinaryOperator::Equal => Code::Operator(Operator::Equal),
-        BinaryOperator::NotEqual => Code::Operator(Operator::NotEqual),
-        BinaryOperator::StrictEqual => Code::Operator(Operator::StrictEqual),
-        BinaryOperator::StrictNotEqual => Code::Operator(Operator::StrictNotEqual),
-        BinaryOperator::Less => Code::Operator(Operator::Less),
-        BinaryOperator::LessOrEqual => Code::Operator(Operator::LessOrEqual),
-        BinaryOperator::Greater => Code::Operator(Operator::Greater),
-        BinaryOperator::GreaterOrEqual => Code::Operator(Operator::GreaterOrEqual),
-        BinaryOperator::In => Code::Word(Word::In),
-        BinaryOperator::Instanceof => Code::Word(Word::Instanceof),
-        BinaryOperator::LeftShift => Code::Operator(Operator::LeftShift),
-        BinaryOperator::RightShift => Code::Operator(Operator::RightShift),
-        BinaryOperator::UnsignedRightShift => Code::Operator(Operator::UnsignedRightShift),
-        BinaryOperator::Add => Code::Operator(Operator::Plus),
-        BinaryOperator::Subtract => Code::Operator(Operator::Minus),
-        BinaryOperator::Multiply => Code::Operator(Operator::Multiply),
-        BinaryOperator::Divide => Code::Operator(Operator::Divide),
-        BinaryOperator::Remainder => Code::Operator(Operator::Remainder),
-        BinaryOperator::Exponent => Code::Operator(Operator::Exponent),
-    }
-}
-
-/// The token of an operator that counts.
-pub fn update_code(operator: UpdateOperator) -> Code
-    ensures { result ≡ update_code operator }
-{
-    match operator {
-        UpdateOperator::Increment => Code::Operator(Operator::Increment),
-        UpdateOperator::Decrement => Code::Operator(Operator::Decrement),
-    }
-}
-
-/// The slot of the left operand.
-#[tactic(auto, using(crate::proofs::Operands::left_first))]
-pub fn left_slot(operator: BinaryOperator) -> Slot
-    ensures { result ≡ first_slot (binary_frame operator) }
-{
-    level::left_slot(operator)
-}
-
-/// The slot of the right operand.
-pub fn right_slot(operator: BinaryOperator) -> Slot
-    ensures { result ≡ right_slot operator }
-{
-    level::right_slot(operator)
+    peek(ahead).map_or(Turn::Ends, turn_of)
 }
 
 /// The slot that the expression before the token then stands in.
+#[tactic(auto, using(crate::proofs::Operands::left_first))]
 pub fn first_slot(turn: Turn) -> Slot
     ensures { result ≡ first_slot (frame (turn_of turn)) }
 {
     match turn {
-        Turn::Operates(operator) => left_slot(operator),
+        Turn::Operates(operator) => level::left_slot(operator),
         Turn::Assigns(_) | Turn::Counts(_) => Slot::Target,
         Turn::Separates => Slot::Assignment,
         Turn::Asks => Slot::ShortCircuit,
@@ -193,31 +130,29 @@ pub fn first_slot(turn: Turn) -> Slot
     }
 }
 
-fn operates(operator: BinaryOperator, allow_in: bool) -> bool
-    ensures { result ≡ is_frame allow_in (binary_frame operator) }
-{
-    match operator {
-        BinaryOperator::In => allow_in,
-        _ => true,
-    }
-}
-
 /// Whether the token can stand behind an expression, where `in` may stand in the open or may not.
 pub fn stands(turn: Turn, allow_in: bool) -> bool
     ensures { result ≡ is_frame allow_in (frame (turn_of turn)) }
 {
     match turn {
-        Turn::Operates(operator) => operates(operator, allow_in),
+        Turn::Operates(BinaryOperator::In) => allow_in,
         Turn::Ends | Turn::Cannot => false,
         _ => true,
     }
 }
 
-/// One of two forms: a tail of an optional chain, or the same outside of one.
-fn linked(chained: bool, tail: Form, plain: Form) -> Form
-    ensures { result ≡ (if chained then tail else plain) }
+/// The form of a member or a call; `chained`: as a tail of an optional chain.
+fn linked(link: Link, chained: bool) -> Form
+    ensures { result ≡ linked link chained }
 {
-    if chained { tail } else { plain }
+    if chained {
+        return Form::Chain(link, Entry::Tail);
+    }
+    match link {
+        Link::Name => Form::Member(Key::Fixed),
+        Link::Key => Form::Member(Key::Computed),
+        Link::Call => Form::Call,
+    }
 }
 
 /// What is left to read of the record that the token makes of the expression before it; `chained`: this is a link
@@ -227,9 +162,9 @@ pub fn behind(turn: Turn, chained: bool) -> Rest
 {
     match turn {
         Turn::Operates(operator) => Rest::TokenLast(
-            binary_code(operator),
+            Code::from(operator),
             Mode::Same,
-            Goal::Expression(right_slot(operator)),
+            Goal::Expression(level::right_slot(operator)),
             Form::Bin(operator),
         ),
         Turn::Assigns(operator) => Rest::TokenLast(
@@ -239,7 +174,7 @@ pub fn behind(turn: Turn, chained: bool) -> Rest
             Form::Assign(operator),
         ),
         Turn::Counts(operator) => Rest::Token(
-            update_code(operator),
+            Code::from(operator),
             Form::Update(operator, Side::After),
         ),
         Turn::Separates => Rest::Comma,
@@ -248,27 +183,15 @@ pub fn behind(turn: Turn, chained: bool) -> Rest
             Code::Punctuator(Punctuator::Dot),
             Mode::Free,
             Goal::Expression(Slot::Identifier),
-            linked(
-                chained,
-                Form::Chain(Link::Name, Entry::Tail),
-                Form::Member(Key::Fixed),
-            ),
+            linked(Link::Name, chained),
         ),
         Turn::Keys => Rest::Enclosed(
             Code::Punctuator(Punctuator::OpenBracket),
             Goal::Expression(Slot::Expression),
             Code::Punctuator(Punctuator::CloseBracket),
-            linked(
-                chained,
-                Form::Chain(Link::Key, Entry::Tail),
-                Form::Member(Key::Computed),
-            ),
+            linked(Link::Key, chained),
         ),
-        Turn::Calls => Rest::Open(List::Arguments(linked(
-            chained,
-            Form::Chain(Link::Call, Entry::Tail),
-            Form::Call,
-        ))),
+        Turn::Calls => Rest::Open(List::Arguments(linked(Link::Call, chained))),
         Turn::Links => Rest::OptionalSign,
         Turn::Ends | Turn::Cannot => Rest::Fail,
     }
@@ -284,17 +207,9 @@ pub fn grown(turn: Turn, chained: bool) -> Form
         Turn::Counts(operator) => Form::Update(operator, Side::After),
         Turn::Separates => Form::Seq,
         Turn::Asks => Form::Cond,
-        Turn::Names => linked(
-            chained,
-            Form::Chain(Link::Name, Entry::Tail),
-            Form::Member(Key::Fixed),
-        ),
-        Turn::Keys => linked(
-            chained,
-            Form::Chain(Link::Key, Entry::Tail),
-            Form::Member(Key::Computed),
-        ),
-        Turn::Calls => linked(chained, Form::Chain(Link::Call, Entry::Tail), Form::Call),
+        Turn::Names => linked(Link::Name, chained),
+        Turn::Keys => linked(Link::Key, chained),
+        Turn::Calls => linked(Link::Call, chained),
         Turn::Links => Form::Chain(Link::Name, Entry::Optional),
         Turn::Ends | Turn::Cannot => Form::Empty,
     }

@@ -1,4 +1,5 @@
 -- The proofs of this crate.
+pub mod Exits
 pub mod Records
 pub mod Trees
 pub mod Scripts

@@ -16,13 +16,13 @@ use Rattle.grammar.proofs.Exact.{unambiguous}
 use Rattle.reader.specs.Width.{NotScript}
 use Rattle.recognizer.specs.Width.{Scripted}
 use Rattle.reader.specs.Rows.{single}
-use Rattle.reader.specs.declared.sink.Row.{Row}
+use Rattle.records.specs.declared.build.Children.{Children}
 use Rattle.recognizer.specs.declared.found.Found.{Found}
-use Rattle.reader.specs.declared.tree.Unread.{Unread}
-use Rattle.reader.specs.declared.tree.Unread.TheVariants.{NoDerivation, TooDeep}
+use Rattle.reader.specs.declared.unread.Unread.{Unread}
+use Rattle.reader.specs.declared.unread.Unread.TheVariants.{NoDerivation, TooDeep}
 
 -- what is found is the tree that the tokens derive
-pub the_tree : {K : Type 0} (ts : List Token) (R : K → K → Row → Forest → Type 0) (e x : K) (f : Found) → Scripted ts R e x f → (t : Tree) → claim.Reads ts t → R x e (single f.slot) (t ▸ nil)
+pub the_tree : {K : Type 0} (ts : List Token) (R : K → K → Children → Forest → Type 0) (e x : K) (f : Found) → Scripted ts R e x f → (t : Tree) → claim.Reads ts t → R x e (single f.slot) (t ▸ nil)
 the_tree ts R e x f s t d = subst (λ (u : Tree). R x e (single f.slot) (u ▸ nil)) (unambiguous ts s.tree t s.derived d) s.row
 
 -- what is refused has no reading within the limit

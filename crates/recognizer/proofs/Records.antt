@@ -11,15 +11,14 @@ use Rattle.grammar.specs.Layout.{layout, attr_of, attr, attrs, fit_kids, good, g
 use Rattle.fitting.specs.Summary.{Sums}
 use Rattle.fitting.specs.declared.summary.Summary.{Summary}
 use Rattle.grammar.specs.Parser.{Goal, Mode, mode, Do, fail, fin, eat, sub, settle, starts, Ran, ran, bind, exec, parse, perform}
-use Rattle.reader.specs.Table.{view}
 use Rattle.reader.specs.Reads.{own, Bad, NotParsed, graft}
 use Rattle.recognizer.specs.Reads.{Joined, Completed, Behind, Shape, Holds, Shaped, Parsed, Made, NotMade, Carried}
 use Rattle.reader.specs.Rows.{Nested, Pushed}
-use Rattle.reader.specs.declared.sink.Row.{Row}
+use Rattle.records.specs.declared.build.Children.{Children}
 use Rattle.recognizer.specs.declared.found.Found.{Found}
 use Rattle.recognizer.specs.declared.found.Parts.{Parts}
-use Rattle.reader.specs.declared.tree.Unread.{Unread}
-use Rattle.reader.specs.declared.tree.Unread.TheVariants.{NoDerivation, TooDeep}
+use Rattle.reader.specs.declared.unread.Unread.{Unread}
+use Rattle.reader.specs.declared.unread.Unread.TheVariants.{NoDerivation, TooDeep}
 use Rattle.reader.proofs.Fuel.{raise_r, bind_inv}
 use Rattle.reader.proofs.Eats.{own_settle, own_one}
 
@@ -120,19 +119,19 @@ and_assoc : (a b c : Bool) → a && (b && c) ≡ (a && b) && c
 and_assoc true b c = refl
 and_assoc false b c = refl
 
+pub and_true : (a : Bool) → a && true ≡ a
+and_true true = refl
+and_true false = refl
+
 goods_last : (us : Forest) (t : Tree) → goods (us ⊕ (t ▸ nil)) ≡ goods us && good t
 unfolding goods
 goods_last nil t = and_true (good t)
-  where
-    and_true : (a : Bool) → a && true ≡ a
-    and_true true = refl
-    and_true false = refl
 goods_last (u ▸ us) t = ap (λ (b : Bool). good u && b) (goods_last us t) ∙ and_assoc (good u) (goods us) (good t)
 
 holds_same : (us : Forest) (p q : Parts) → q.children ≡ p.children → q.good ≡ p.good → q.size ≡ p.size → q.depth ≡ p.depth → Holds us p → Holds us q
 holds_same us p q a b d e h = record { children = subst (λ (k : Summary). Sums (attrs us) k) (sym a) h.children; fit = h.fit ∙ sym b; records = h.records ∙ sym d; nests = h.nests ∙ sym e }
 
-holds_join : (us : Forest) (t : Tree) (p q : Parts) (f : Found) (r : Row) → Holds us p → Shape t f → Joined p f r q → Holds (us ⊕ (t ▸ nil)) q
+holds_join : (us : Forest) (t : Tree) (p q : Parts) (f : Found) (r : Children) → Holds us p → Shape t f → Joined p f r q → Holds (us ⊕ (t ▸ nil)) q
 holds_join us t p q f r h s j =
     record {
       children = subst (λ (cs : List Attr). Sums cs q.children) (sym (attrs_last us t ∙ ap (λ (a : Attr). attrs us ++ (a ∷ [])) s.attributes)) (j.children (attrs us) h.children);
@@ -154,40 +153,36 @@ bad_le : (e : Unread) (i d b : ℕ) → Bad e i d → d ≤ b → Bad e i b
 bad_le NoDerivation i d b h le = h
 bad_le TooDeep i d b h le = omega arith
 
-module _ {K : Type 0} (R : K → K → Row → Forest → Type 0) (ts : List Token) (b : Bool) where
-  pub carried_none : (e0 : K) (s : Do) (p : Parts) → p.end ≤ length ts → p.depth ≤ p.size → Carried ts b s p R e0 e0 s p
-  carried_none e0 s p w n = record { rows = λ z ws h. subst (λ (us : Forest). R e0 z p.row us) (sym (join_nil ws)) h; few = omega arith; fewer = omega arith; nests = n; within = w; lo = refl; run = (nil, λ ws h. subst (λ (us : Forest). Holds us p) (sym (join_nil ws)) h, (0, λ m le. (m, omega arith, graft_nil (perform m b s p.hi (view ts p.end))))) }
+module _ {K : Type 0} (R : K → K → Children → Forest → Type 0) (b : Bool) where
+  pub carried_none : (e0 : K) (s : Do) (p : Parts) → Carried b s p R e0 e0 s p
+  carried_none e0 s p = record { rows = λ z ws h. subst (λ (us : Forest). R e0 z p.row us) (sym (join_nil ws)) h; few = omega arith; fewer = omega arith; lo = refl; run = (nil, λ ws h. subst (λ (us : Forest). Holds us p) (sym (join_nil ws)) h, (0, λ m le. (m, omega arith, graft_nil (perform m b s p.hi p.ahead.now)))) }
 
-  module _ (s0 : Do) (p0 : Parts) (e0 m0 : K) (s : Do) (p : Parts) (c : Carried ts b s0 p0 R e0 m0 s p) where
-    pub carried_eat : (k : Code) (s2 : Do) (q : Parts) → settle s (view ts p.end) ≡ eat k s2 → Behind ts p k q → Carried ts b s0 p0 R e0 m0 s2 q
+  module _ (s0 : Do) (p0 : Parts) (e0 m0 : K) (s : Do) (p : Parts) (c : Carried b s0 p0 R e0 m0 s p) where
+    pub carried_eat : (k : Code) (s2 : Do) (q : Parts) → settle s p.ahead.now ≡ eat k s2 → Behind p k q → Carried b s0 p0 R e0 m0 s2 q
     carried_eat k s2 q e x =
         let (us, h, (k0, g)) = c.run in
         let (tk, v, sm, hi) = x.next in
         record {
-          few = omega (arith, c.few, x.records, x.end, own_one s);
-          fewer = omega (arith, c.fewer, x.records, x.end);
-          nests = omega (arith, c.nests, x.records, x.nests);
-          rows = λ z ws hw. subst (λ (r : Row). R m0 z r (ws ⊕ us)) (sym x.row) (c.rows z ws hw);
-          within = omega (arith, x.within, x.end);
+          few = omega (arith, c.few, x.records, ap length v, own_one s);
+          fewer = omega (arith, c.fewer, x.records, ap length v);
+          rows = λ z ws hw. subst (λ (r : Children). R m0 z r (ws ⊕ us)) (sym x.row) (c.rows z ws hw);
           lo = x.lo ∙ c.lo;
           run = (
             us,
             λ ws hw. holds_same (ws ⊕ us) p q x.children x.fit x.records x.nests (h ws hw),
-            (k0, λ m le. let (n, l, w) = g (suc m) (omega arith) in (n, omega arith, w ∙ ap (graft us) (step_eat m b s p.hi (view ts p.end) k s2 tk (view ts (p.end + 1)) e v sm ∙ rw (hi, x.end) refl))),
+            (k0, λ m le. let (n, l, w) = g (suc m) (omega arith) in (n, omega arith, w ∙ ap (graft us) (step_eat m b s p.hi p.ahead.now k s2 tk q.ahead.now e v sm ∙ rw hi refl))),
           );
         }
 
-    pub carried_read : (x1 x2 : K) (d : Mode) (g : Goal) (s2 : Do) (f : Found) (r2 : Row) (q : Parts) → settle s (view ts p.end) ≡ sub d g s2 → Parsed ts p.end (mode d b) g R m0 x1 f → Pushed R x1 x2 p.row f.slot r2 → Joined p f r2 q → Carried ts b s0 p0 R e0 x2 s2 q
+    pub carried_read : (x1 x2 : K) (d : Mode) (g : Goal) (s2 : Do) (f : Found) (r2 : Children) (q : Parts) → settle s p.ahead.now ≡ sub d g s2 → Parsed p.ahead.now (mode d b) g R m0 x1 f → Pushed R x1 x2 p.row f.slot r2 → Joined p f r2 q → Carried b s0 p0 R e0 x2 s2 q
     carried_read x1 x2 d g s2 f r2 q e x pu j =
         let (us, h, (k0, w)) = c.run in
         let (t, sh, (m1, r), sk) = x.tree in
-        let big : own s ≤ own s2 = subst (λ (z : Do). own s ≤ own z) e (own_settle s (view ts p.end)) in
+        let big : own s ≤ own s2 = subst (λ (z : Do). own s ≤ own z) e (own_settle s p.ahead.now) in
         record {
-          few = omega (arith, c.few, x.few, j.records, j.end, big);
-          fewer = omega (arith, c.fewer, x.few, j.records, j.end);
-          nests = omega (arith, c.nests, x.nests, j.records, j.nests);
-          rows = λ z ws hw. subst (λ (r : Row). R x2 z r (ws ⊕ (us ⊕ (t ▸ nil)))) (sym j.row) (subst (λ (vs : Forest). R x2 z r2 vs) (join_assoc ws us (t ▸ nil)) (pu.at z m0 (ws ⊕ us) t (c.rows z ws hw) sk));
-          within = omega (arith, x.within, j.end);
+          few = omega (arith, c.few, x.few, j.records, ap length j.ahead, big);
+          fewer = omega (arith, c.fewer, x.few, j.records, ap length j.ahead);
+          rows = λ z ws hw. subst (λ (r : Children). R x2 z r (ws ⊕ (us ⊕ (t ▸ nil)))) (sym j.row) (subst (λ (vs : Forest). R x2 z r2 vs) (join_assoc ws us (t ▸ nil)) (pu.at z m0 (ws ⊕ us) t (c.rows z ws hw) sk));
           lo = j.lo ∙ c.lo;
           run = (
             us ⊕ (t ▸ nil),
@@ -199,48 +194,46 @@ module _ {K : Type 0} (R : K → K → Row → Forest → Type 0) (ts : List Tok
                   let hi : (head_of t).hi ≡ q.hi = ap (λ (z : Head). z.hi) sh.heads ∙ sym j.hi in (
                     n,
                     omega arith,
-                    y ∙ ap (graft us) (sub_yes m b s p.hi (view ts p.end) d g s2 t (view ts f.end) e (r m (omega arith))) ∙ graft_graft us (t ▸ nil) (perform m b s2 (head_of t).hi (view ts f.end)) ∙ rw (hi, j.end) refl,
+                    y ∙ ap (graft us) (sub_yes m b s p.hi p.ahead.now d g s2 t f.ahead.now e (r m (omega arith))) ∙ graft_graft us (t ▸ nil) (perform m b s2 (head_of t).hi f.ahead.now) ∙ rw (hi, j.ahead) refl,
                   ),
             ),
           );
         }
 
-    pub made : (x1 : K) (g : Form) (n1 : ℕ) (f : Found) → settle s (view ts p.end) ≡ fin g → Completed p g n1 f → Nested R m0 x1 g p.row p.lo p.hi n1 → Made ts b s0 p0 R e0 x1 f
+    pub made : (x1 : K) (g : Form) (n1 : ℕ) (f : Found) → settle s p.ahead.now ≡ fin g → Completed p g n1 f → Nested R m0 x1 (record { form = g; lo = p.lo; hi = p.hi }) p.row n1 → Made b s0 p0 R e0 x1 f
     made x1 g n1 f e x ne =
         let (us, h, (k0, w)) = c.run in
         let (n, l, y) = w (suc k0) (omega arith) in
-        let big : own s ≤ 0 = subst (λ (z : Do). own s ≤ own z) e (own_settle s (view ts p.end)) in
-        let is : perform n b s0 p0.hi (view ts p0.end) ≡ some (ran f.traits.form us f.hi (view ts f.end)) = y ∙ ap (graft us) (step_fin k0 b s p.hi (view ts p.end) g e) ∙ rw (x.form, x.hi, x.end, join_nil us) refl in
+        let big : own s ≤ 0 = subst (λ (z : Do). own s ≤ own z) e (own_settle s p.ahead.now) in
+        let is : perform n b s0 p0.hi p0.ahead.now ≡ some (ran f.traits.form us f.hi f.ahead.now) = y ∙ ap (graft us) (step_fin k0 b s p.hi p.ahead.now g e) ∙ rw (x.form, x.hi, x.ahead, join_nil us) refl in
         record {
-          few = omega (arith, c.few, x.records, x.end, big);
-          nests = omega (arith, c.nests, x.records, x.nests);
-          within = omega (arith, c.within, x.end);
+          few = omega (arith, c.few, x.records, ap length x.ahead, big);
           rows = λ z ws hw. rw (x.slot, x.form, x.lo, x.hi) (ne.at z (ws ⊕ us) (c.rows z ws hw));
           lo = x.lo ∙ c.lo;
           run = (
             us,
-            (n, λ m le. raise_r n m b s0 p0.hi (view ts p0.end) _ le is),
+            (n, λ m le. raise_r n m b s0 p0.hi p0.ahead.now _ le is),
             λ ws hw. shaped_by (ws ⊕ us) p g n1 f x (h ws hw),
           );
         }
 
     -- what the whole would give, the rest gives
-    back : (n : ℕ) (y : Ran) → perform n b s0 p0.hi (view ts p0.end) ≡ some y → (m : ℕ) × (z : Ran) × (perform (suc m) b s p.hi (view ts p.end) ≡ some z) × (depths z.kids ≤ depths y.kids)
+    back : (n : ℕ) (y : Ran) → perform n b s0 p0.hi p0.ahead.now ≡ some y → (m : ℕ) × (z : Ran) × (perform (suc m) b s p.hi p.ahead.now ≡ some z) × (depths z.kids ≤ depths y.kids)
     back n y e =
         let (us, h, (k0, w)) = c.run in
         let (k, l, g) = w (suc (k0 + n)) (omega arith) in
-        let (z, i, j) = graft_inv us (perform (suc (k0 + n)) b s p.hi (view ts p.end)) y (sym g ∙ raise_r n k b s0 p0.hi (view ts p0.end) y (omega arith) e) in
+        let (z, i, j) = graft_inv us (perform (suc (k0 + n)) b s p.hi p.ahead.now) y (sym g ∙ raise_r n k b s0 p0.hi p0.ahead.now y (omega arith) e) in
         (k0 + n, z, i, subst (λ (vs : Forest). depths z.kids ≤ depths vs) j (depths_right us z.kids))
 
-    pub not_fail : (room : ℕ) → settle s (view ts p.end) ≡ fail → NotMade ts b s0 p0 room NoDerivation
-    not_fail room e n y g = let (m, z, i, le) = back n y g in none-ne-some z (sym (step_fail m b s p.hi (view ts p.end) e) ∙ i)
+    pub not_fail : (room : ℕ) → settle s p.ahead.now ≡ fail → NotMade b s0 p0 room NoDerivation
+    not_fail room e n y g = let (m, z, i, le) = back n y g in none-ne-some z (sym (step_fail m b s p.hi p.ahead.now e) ∙ i)
 
-    pub not_eaten : (room : ℕ) (k : Code) (s2 : Do) → settle s (view ts p.end) ≡ eat k s2 → starts k (view ts p.end) ≡ false → NotMade ts b s0 p0 room NoDerivation
-    not_eaten room k s2 e d n y g = let (m, z, i, le) = back n y g in none-ne-some z (sym (step_eat_no m b s p.hi (view ts p.end) k s2 e d) ∙ i)
+    pub not_eaten : (room : ℕ) (k : Code) (s2 : Do) → settle s p.ahead.now ≡ eat k s2 → starts k p.ahead.now ≡ false → NotMade b s0 p0 room NoDerivation
+    not_eaten room k s2 e d n y g = let (m, z, i, le) = back n y g in none-ne-some z (sym (step_eat_no m b s p.hi p.ahead.now k s2 e d) ∙ i)
 
-    pub not_read : (room : ℕ) (d : Mode) (g : Goal) (s2 : Do) (x : Unread) → settle s (view ts p.end) ≡ sub d g s2 → NotParsed ts p.end (mode d b) g room x → NotMade ts b s0 p0 room x
+    pub not_read : (room : ℕ) (d : Mode) (g : Goal) (s2 : Do) (x : Unread) → settle s p.ahead.now ≡ sub d g s2 → NotParsed p.ahead.now (mode d b) g room x → NotMade b s0 p0 room x
     not_read room d g s2 x e r n y w =
         let (m, z, i, le) = back n y w in
-        let (t, js, us, h1, h2) = sub_inv m b s p.hi (view ts p.end) d g s2 z e i in
+        let (t, js, us, h1, h2) = sub_inv m b s p.hi p.ahead.now d g s2 z e i in
         let le2 : depth t ≤ depths z.kids = subst (λ (vs : Forest). depth t ≤ depths vs) h2 (depths_first t us) in
         bad_le x room (depth t) (depths y.kids) (r m t js h1) (omega (arith, le, le2))

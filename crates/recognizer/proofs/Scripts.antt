@@ -1,5 +1,7 @@
 -- Whole scripts.
-use Rattle.std.proofs.Common.{◌≡◌, ℕ, zero, suc, ◌+◌, ◌*◌, ◌<◌, ◌≤◌, Bool, true, false, cond, not, T, eqb, ltb, List, [], ◌∷◌, length, drop, sym, refl, ap, ◌∙◌, subst, arith, length-drop, drop_of_length-le, ltb-false, ltb-true}
+use Rattle.std.proofs.Common.{◌≡◌, ℕ, zero, suc, ◌+◌, ◌*◌, ◌<◌, ◌≤◌, Bool, true, false, cond, T, eqb, ltb, List, [], ◌∷◌, length, sym, refl, ap, ◌∙◌, subst, arith, ltb-false, ltb-true}
+use Rattle.std.specs.Prelude.{◌==◌}
+use Rattle.std.proofs.lemmas.List.{nil_from_length}
 use mathlib.Core.Option.{none, some, none-ne-some}
 use Rattle.token.specs.declared.Token.{Token}
 use Rattle.kinds.specs.declared.form.Form.{Form}
@@ -14,20 +16,19 @@ use Rattle.grammar.specs.Parser.{stm, scr, free, sub, stms, fin, at_stop, Ran, r
 use Rattle.grammar.proofs.Tests.{and_l}
 use Rattle.grammar.proofs.Exact.{read_derives, good_derives, derived_good}
 use Rattle.grammar.proofs.Written.{found_written}
-use Rattle.reader.specs.Table.{view}
 use Rattle.reader.specs.Reads.{Reads}
 use Rattle.recognizer.specs.Reads.{Shape, Started, Made, NotMade}
 use Rattle.reader.specs.Width.{NotScript, refused_of}
-use Rattle.recognizer.specs.Width.{Scripted}
+use Rattle.recognizer.specs.Width.{Whole, Scripted}
 use Rattle.recognizer.specs.declared.found.Found.{Found}
 use Rattle.recognizer.specs.declared.found.Parts.{Parts}
-use Rattle.reader.specs.declared.tree.Unread.{Unread}
-use Rattle.reader.specs.declared.tree.Unread.TheVariants.{NoDerivation, TooDeep}
+use Rattle.reader.specs.declared.unread.Unread.{Unread}
+use Rattle.reader.specs.declared.unread.Unread.TheVariants.{NoDerivation, TooDeep}
 use Rattle.reader.proofs.Fuel.{raise_p, bind_inv, some_one}
-use Rattle.reader.proofs.Width.{width, depths_sizes}
+use Rattle.reader.proofs.Width.{width, depth_size, depths_sizes}
 use Rattle.recognizer.proofs.Trees.{shape_node, holds_nil, row_at}
 use Rattle.reader.specs.Rows.{single}
-use Rattle.reader.specs.declared.sink.Row.{Row}
+use Rattle.records.specs.declared.build.Children.{Children}
 
 -- The reading of a script is what the grammar's reader finds.
 cond_some : {A : Type 0} (b : Bool) (x y : A) → cond b (some x) none ≡ some y → T b × (x ≡ y)
@@ -75,14 +76,6 @@ T_true : (b : Bool) → T b → b ≡ true
 T_true true h = refl
 T_true false h = absurd h
 
-not_true : (b : Bool) → not b ≡ true → b ≡ false
-not_true true h = sym h
-not_true false h = refl
-
-not_false : (b : Bool) → not b ≡ false → b ≡ true
-not_false true h = refl
-not_false false h = sym h
-
 depth_begun : (ts : List Token) (y : Ran) → depth (begun ts y) ≡ 1 + depths y.kids
 unfolding depth
 depth_begun ts y = refl
@@ -94,95 +87,96 @@ shallow ts u d =
     let w : depth (begun ts y) ≤ 1 + length ts = omega (arith, depth_begun ts y, depths_sizes y.kids, width m true (stms (fin form.Script)) 0 ts y tt h1) in
     subst (λ (t : Tree). depth t ≤ 1 + length ts) h2 w
 
-module _ (ts : List Token) (r0 : Row) (p : Parts) (st : Started ts 0 r0 p) where
-  run_at : (m : ℕ) (y : Ran) → perform m true (stms (fin form.Script)) 0 ts ≡ some y → perform m true (stms (fin form.Script)) p.hi (view ts p.end) ≡ some y
-  unfolding view
-  run_at m y h = rw (st.hi, st.end) h
+module _ (ts : List Token) (r0 : Children) (p : Parts) (st : Started ts r0 p) where
+  run_at : (m : ℕ) (y : Ran) → perform m true (stms (fin form.Script)) 0 ts ≡ some y → perform m true (stms (fin form.Script)) p.hi p.ahead.now ≡ some y
+  run_at m y h = rw (st.hi, st.ahead) h
 
-  pub no_script : NotMade ts true (stms (fin form.Script)) p 511 NoDerivation → NotScript ts NoDerivation
+  pub no_script : NotMade true (stms (fin form.Script)) p 511 NoDerivation → NotScript ts NoDerivation
   no_script nm u d = let (m, y, h1, h2, h3) = scr_inv (8 * length ts + 8) ts u [] (found ts u d) in nm m y (run_at m y h1)
 
-  deep : NotMade ts true (stms (fin form.Script)) p 511 TooDeep → (u : Tree) → claim.Reads ts u → 512 < depth u
+  deep : NotMade true (stms (fin form.Script)) p 511 TooDeep → (u : Tree) → claim.Reads ts u → 512 < depth u
   deep nm u d =
       let (m, y, h1, h2, h3) = scr_inv (8 * length ts + 8) ts u [] (found ts u d) in
       let w : 512 < depth (begun ts y) = omega (arith, depth_begun ts y, nm m y (run_at m y h1)) in
       subst (λ (t : Tree). 512 < depth t) h2 w
 
-  pub deep_long : 500 ≤ length ts → NotMade ts true (stms (fin form.Script)) p 511 TooDeep → NotScript ts TooDeep
+  pub deep_long : 500 ≤ length ts → NotMade true (stms (fin form.Script)) p 511 TooDeep → NotScript ts TooDeep
   deep_long le nm = (le, deep nm)
 
-  pub deep_short : length ts < 500 → NotMade ts true (stms (fin form.Script)) p 511 TooDeep → NotScript ts NoDerivation
+  pub deep_short : length ts < 500 → NotMade true (stms (fin form.Script)) p 511 TooDeep → NotScript ts NoDerivation
   deep_short lt nm u d = absurd (omega (arith, deep nm u d, shallow ts u d))
 
-  refuse_by : NotMade ts true (stms (fin form.Script)) p 511 TooDeep → (b : Bool) → ltb (length ts) 500 ≡ b → NotScript ts (cond b NoDerivation TooDeep)
+  refuse_by : NotMade true (stms (fin form.Script)) p 511 TooDeep → (b : Bool) → ltb (length ts) 500 ≡ b → NotScript ts (cond b NoDerivation TooDeep)
   refuse_by nm true e = deep_short (ltb-true (length ts) 500 e) nm
   refuse_by nm false e = deep_long (ltb-false (length ts) 500 e) nm
 
-  pub refuse : (e : Unread) → NotMade ts true (stms (fin form.Script)) p 511 e → NotScript ts (refused_of (length ts) e)
+  pub refuse : (e : Unread) → NotMade true (stms (fin form.Script)) p 511 e → NotScript ts (refused_of (length ts) e)
   refuse NoDerivation nm = no_script nm
   refuse TooDeep nm = refuse_by nm (ltb (length ts) 500) refl
 
-  module _ {K : Type 0} (R : K → K → Row → Forest → Type 0) (e0 x0 : K) (f : Found) (m : Made ts true (stms (fin form.Script)) p R e0 x0 f) where
+  module _ {K : Type 0} (R : K → K → Children → Forest → Type 0) (e0 x0 : K) (f : Found) (m : Made true (stms (fin form.Script)) p R e0 x0 f) where
     abbrev t0 : Tree
     t0 = node (head f.traits.form (lo_of ts) f.hi) m.run.0
 
     shaped : Shape t0 f
-    unfolding view
-    shaped = shape_node m.run.0 f (lo_of ts) (sym (m.lo ∙ rw st.lo refl)) (m.run.2 nil (holds_nil ts 0 r0 p st))
+    shaped = shape_node m.run.0 f (lo_of ts) (sym (m.lo ∙ rw st.lo refl)) (m.run.2 nil (holds_nil ts r0 p st))
 
-    scr_reads : Reads true scr ts t0 (view ts f.end)
-    unfolding parse loop view
+    scr_reads : Reads true scr ts t0 f.ahead.now
+    unfolding parse loop
     scr_reads = (m.run.1.0 + 2, go)
       where
-        go : (n : ℕ) → m.run.1.0 + 2 ≤ n → parse n true scr ts ≡ some (t0, view ts f.end)
+        go : (n : ℕ) → m.run.1.0 + 2 ≤ n → parse n true scr ts ≡ some (t0, f.ahead.now)
         go zero le = absurd (omega arith)
         go (suc zero) le = absurd (omega arith)
-        go (suc (suc n)) le = let e : perform (suc n) true (stms (fin form.Script)) 0 ts ≡ some (ran f.traits.form m.run.0 f.hi (view ts f.end)) = rw (st.hi, st.end) at (m.run.1.1 (suc n) (omega arith)) in rw e
+        go (suc (suc n)) le = let e : perform (suc n) true (stms (fin form.Script)) 0 ts ≡ some (ran f.traits.form m.run.0 f.hi f.ahead.now) = rw (st.hi, st.ahead) at (m.run.1.1 (suc n) (omega arith)) in rw e
 
-    only : (u : Tree) → claim.Reads ts u → (u ≡ t0) × ([] ≡ view ts f.end)
+    only : (u : Tree) → claim.Reads ts u → (u ≡ t0) × ([] ≡ f.ahead.now)
     only u d =
         let k : ℕ = scr_reads.0 in
-        let a : parse (k + (8 * length ts + 8)) true scr ts ≡ some (t0, view ts f.end) = scr_reads.1 (k + (8 * length ts + 8)) (omega arith) in
+        let a : parse (k + (8 * length ts + 8)) true scr ts ≡ some (t0, f.ahead.now) = scr_reads.1 (k + (8 * length ts + 8)) (omega arith) in
         let c : parse (k + (8 * length ts + 8)) true scr ts ≡ some (u, []) = raise_p (8 * length ts + 8) (k + (8 * length ts + 8)) true scr ts (u, []) (omega arith) (found ts u d) in
-        let e = some_one (u, []) (t0, view ts f.end) (sym c ∙ a) in
+        let e = some_one (u, []) (t0, f.ahead.now) (sym c ∙ a) in
         (ap (λ (x : Tree × List Token). x.0) e, ap (λ (x : Tree × List Token). x.1) e)
 
     kept : R e0 e0 r0 nil → R x0 e0 (single f.slot) (t0 ▸ nil)
-    unfolding view
-    kept rn = row_at R x0 e0 f (lo_of ts) m.run.0 (sym (m.lo ∙ rw st.lo refl)) (m.rows e0 nil (subst (λ (r : Row). R e0 e0 r nil) (sym st.row) rn))
+    kept rn = row_at R x0 e0 f (lo_of ts) m.run.0 (sym (m.lo ∙ rw st.lo refl)) (m.rows e0 nil (subst (λ (r : Children). R e0 e0 r nil) (sym st.row) rn))
 
-    pub left_over : f.end < length ts → NotScript ts NoDerivation
-    unfolding view
-    left_over lt u d = let e : length {A = Token} [] ≡ length (drop f.end ts) = ap length (only u d).1 in absurd (omega (arith, e, length-drop f.end ts))
-
-    pub unfit : not f.good ≡ true → NotScript ts NoDerivation
-    unfit n u d =
-        let g : good t0 ≡ true = T_true (good t0) (subst Good (only u d).0 (derived_good ts u d).1) in
-        let z : true ≡ false = sym g ∙ shaped.fit ∙ not_true f.good n in
+    pub left_over : false ≡ (length f.ahead.now == 0) → NotScript ts NoDerivation
+    left_over off u d =
+        let z : false ≡ true = subst (λ (ks : List Token). false ≡ (length ks == 0)) (sym (only u d).1) off in
         let x : ◌≡◌ {A = ℕ} 0 1 = cc in
         omega arith
 
-    module _ (le : length ts ≤ f.end) (fit : not f.good ≡ false) where
-      read_all : Reads true scr ts t0 []
-      unfolding view
-      read_all = subst (λ (r : List Token). Reads true scr ts t0 r) (drop_of_length-le ts le) scr_reads
+    pub whole : R e0 e0 r0 nil → true ≡ (length f.ahead.now == 0) → Whole ts R e0 x0 f
+    whole rn off =
+        let none_left : f.ahead.now ≡ [] = nil_from_length f.ahead.now (grind (arith, off)) in
+        record { tree = t0; shape = shaped; found = subst (λ (r : List Token). Reads true scr ts t0 r) none_left scr_reads; only = λ u d. (only u d).0; few = omega (arith, m.few, st.records, ap length st.ahead); row = kept rn }
 
-      a_script : T (ok root (attr t0))
-      unfolding attr
-      a_script =
-          let e : f.traits.form ≡ form.Script = scripts m.run.1.0 true form.Script p.hi (view ts p.end) _ (m.run.1.1 m.run.1.0 (omega arith)) in
-          subst (λ (g : Form). T (eqb 6 (sort_rank (sort_of g)))) (sym e) tt
+-- Whether its children fit, and how deep it nests.
+begun_script : (ts : List Token) (y : Ran) → y.form ≡ form.Script → T (ok root (attr (begun ts y)))
+unfolding attr
+begun_script ts y e = subst (λ (g : Form). T (eqb 6 (sort_rank (sort_of g)))) (sym e) tt
 
-      -- a good tree that is written with the tokens has a reading, and no other tree can be one
-      derived : claim.Reads ts t0
-      derived =
-          let k : ℕ = read_all.0 in
-          let w = found_written k true scr ts t0 [] (read_all.1 k (omega arith)) in
-          let (u, e, d) = good_derives ts t0 a_script (subst T (sym (shaped.fit ∙ not_false f.good fit)) tt) (sym w) in
-          subst (λ (v : Tree). claim.Reads ts v) (only u d).0 d
+module _ {K : Type 0} (ts : List Token) (R : K → K → Children → Forest → Type 0) (e0 x0 : K) (f : Found) (w : Whole ts R e0 x0 f) where
+  pub unfit : f.good ≡ false → NotScript ts NoDerivation
+  unfit n u d =
+      let g : good w.tree ≡ true = T_true (good w.tree) (subst Good (w.only u d) (derived_good ts u d).1) in
+      let z : true ≡ false = sym g ∙ w.shape.fit ∙ n in
+      let x : ◌≡◌ {A = ℕ} 0 1 = cc in
+      omega arith
 
-      pub too_deep : 511 < f.under → NotScript ts TooDeep
-      too_deep lt = (omega (arith, m.few, m.nests, m.within, st.records, st.end), λ u d. subst (λ (t : Tree). 512 < depth t) (sym (only u d).0) (omega (arith, shaped.nests)))
+  pub too_deep : 511 < f.under → NotScript ts TooDeep
+  too_deep lt = (omega (arith, w.few, w.shape.records, w.shape.nests, depth_size w.tree), λ u d. subst (λ (t : Tree). 512 < depth t) (sym (w.only u d)) (omega (arith, w.shape.nests)))
 
-      pub scripted : R e0 e0 r0 nil → f.under ≤ 511 → Scripted ts R e0 x0 f
-      scripted rn un = record { tree = t0; derived = derived; shape = shaped; nests = omega (arith, shaped.nests); few = omega (arith, m.few, m.within, st.records, st.end); row = kept rn }
+  a_script : T (ok root (attr w.tree))
+  a_script = let (m, y, h1, h2, h3) = scr_inv w.found.0 ts w.tree [] (w.found.1 w.found.0 (omega arith)) in subst (λ (t : Tree). T (ok root (attr t))) h2 (begun_script ts y (scripts m true form.Script 0 ts y h1))
+
+  -- a good tree that is written with the tokens has a reading, and no other tree can be one
+  derived : f.good ≡ true → claim.Reads ts w.tree
+  derived fit =
+      let v = found_written w.found.0 true scr ts w.tree [] (w.found.1 w.found.0 (omega arith)) in
+      let (u, e, d) = good_derives ts w.tree a_script (subst T (sym (w.shape.fit ∙ fit)) tt) (sym v) in
+      subst (λ (t : Tree). claim.Reads ts t) (w.only u d) d
+
+  pub scripted : f.good ≡ true → f.under ≤ 511 → Scripted ts R e0 x0 f
+  scripted fit un = record { tree = w.tree; derived = derived fit; shape = w.shape; nests = omega (arith, w.shape.nests); few = w.few; row = w.row }

@@ -1,5 +1,5 @@
 -- The loop over what follows an expression.
-use Rattle.std.proofs.Common.{◌≡◌, ℕ, zero, suc, ◌+◌, ◌-◌, ◌<◌, ◌≤◌, Bool, true, false, cond, ◌&&◌, T, List, [], ◌∷◌, sym, refl, ap, ◌∙◌, subst, arith}
+use Rattle.std.proofs.Common.{◌≡◌, ℕ, zero, suc, ◌+◌, ◌-◌, ◌<◌, ◌≤◌, Bool, true, false, cond, T, List, [], ◌∷◌, length, sym, refl, ap, ◌∙◌, subst, arith}
 use mathlib.Core.Option.{some, none-ne-some}
 use Rattle.token.specs.declared.Token.{Token}
 use Rattle.kinds.specs.Levels.{is_o}
@@ -9,17 +9,18 @@ use Rattle.grammar.specs.Layout.{attr, attrs, good, goods, sort_of}
 use Rattle.fitting.specs.Summary.{Sums}
 use Rattle.grammar.specs.Derives.{lo_of}
 use Rattle.grammar.specs.Parser.{Goal, Do, prefix, After, frame_do, frame, next, goes_on, Ran, ran, bind, begun, grown_on, parse, loop, perform}
-use Rattle.reader.specs.Table.{view, Turns}
+use Rattle.reader.specs.Table.{Turns}
 use Rattle.reader.specs.Reads.{own, eats, Bad, NotParsed}
-use Rattle.recognizer.specs.Reads.{standing_of, Started, Alone, Holds, Shape, Shaped, Parsed, Made, NotMade, Reached, Climbed, Onward}
+use Rattle.recognizer.specs.Reads.{standing_of, Started, Alone, Holds, Shape, Shaped, Parsed, Made, NotMade, Reached, Onward}
 use Rattle.reader.specs.Rows.{single}
-use Rattle.reader.specs.declared.sink.Row.{Row}
+use Rattle.records.specs.declared.build.Children.{Children}
 use Rattle.recognizer.specs.declared.found.Found.{Found}
 use Rattle.recognizer.specs.declared.found.Parts.{Parts}
-use Rattle.reader.specs.declared.tree.Unread.{Unread}
-use Rattle.reader.specs.declared.tree.Unread.TheVariants.{NoDerivation, TooDeep}
+use Rattle.reader.specs.declared.unread.Unread.{Unread}
+use Rattle.reader.specs.declared.unread.Unread.TheVariants.{NoDerivation, TooDeep}
 use Rattle.reader.proofs.Fuel.{raise_p, bind_inv, grow}
 use Rattle.reader.proofs.Eats.{own_true, frame_eats}
+use Rattle.recognizer.proofs.Records.{and_true}
 
 bad_up : (e : Unread) (i room d c : ℕ) → 0 < room → i ≡ room - 1 → Bad e i d → d + 1 ≤ c → Bad e room c
 bad_up NoDerivation i room d c p q h le = h
@@ -43,13 +44,9 @@ pub shape_node : (us : Forest) (f : Found) (l : ℕ) → l ≡ f.lo → Shaped u
 unfolding attr good size depth
 shape_node us f l e s = record { heads = rw e refl; attributes = s.attributes; fit = s.fit; records = ap (λ (k : ℕ). 1 + k) s.records; nests = ap (λ (k : ℕ). 1 + k) s.nests }
 
-pub holds_nil : (ts : List Token) (i : ℕ) (r : Row) (p : Parts) → Started ts i r p → Holds nil p
+pub holds_nil : (ks : List Token) (r : Children) (p : Parts) → Started ks r p → Holds nil p
 unfolding attrs goods sizes depths
-holds_nil ts i r p s = record { children = s.children; fit = sym s.fit; records = sym s.records; nests = sym s.nests }
-
-and_true : (a : Bool) → a && true ≡ a
-and_true true = refl
-and_true false = refl
+holds_nil ks r p s = record { children = s.children; fit = sym s.fit; records = sym s.records; nests = sym s.nests }
 
 holds_one : (t : Tree) (l : Found) (p : Parts) → Shape t l → Alone l p → Holds (t ▸ nil) p
 unfolding attrs goods sizes depths
@@ -61,7 +58,7 @@ stands t f s = ap (λ (a : Attr). a.standing) s.attributes
 sorted : (t : Tree) (f : Found) → Shape t f → (attr t).sort ≡ sort_of f.traits.form
 sorted t f s = ap (λ (a : Attr). a.sort) s.attributes
 
-pub row_at : {K : Type 0} (R : K → K → Row → Forest → Type 0) (x z : K) (f : Found) (l : ℕ) (us : Forest) → l ≡ f.lo → R x z (single f.slot) (node (head f.traits.form f.lo f.hi) us ▸ nil) → R x z (single f.slot) (node (head f.traits.form l f.hi) us ▸ nil)
+pub row_at : {K : Type 0} (R : K → K → Children → Forest → Type 0) (x z : K) (f : Found) (l : ℕ) (us : Forest) → l ≡ f.lo → R x z (single f.slot) (node (head f.traits.form f.lo f.hi) us ▸ nil) → R x z (single f.slot) (node (head f.traits.form l f.hi) us ▸ nil)
 row_at R x z f l us e h = rw e h
 
 parse_one : (m : ℕ) (b : Bool) (q : Goal) (ks : List Token) (y : Ran) → perform m b (prefix q ks) 0 ks ≡ some y → parse (suc m) b q ks ≡ loop m b q (begun ks y) y.left
@@ -91,101 +88,80 @@ loop_off m b q t ks g = rw g
 perform_same : (m : ℕ) (b : Bool) (s s2 : Do) (h h2 : ℕ) (ks js : List Token) (y : Ran) → s ≡ s2 → h ≡ h2 → ks ≡ js → perform m b s2 h2 js ≡ some y → perform m b s h ks ≡ some y
 perform_same m b s s2 h h2 ks js y a c d e = rw (a, c, d) e
 
-module _ (ts : List Token) (i : ℕ) (b : Bool) (q : Goal) where
-  pub no_room : NotParsed ts i b q 0 TooDeep
+module _ (ts : List Token) (b : Bool) (q : Goal) where
+  pub no_room : NotParsed ts b q 0 TooDeep
   no_room n t r h = some_deep t
 
-  module _ (s : Do) (r0 : Row) (p : Parts) (st : Started ts i r0 p) (e : s ≡ prefix q (view ts i)) where
-    pub reached_first : {K : Type 0} (R : K → K → Row → Forest → Type 0) (e0 x0 : K) (f : Found) → T (eats (prefix q (view ts i))) → R e0 e0 r0 nil → Made ts b s p R e0 x0 f → Reached ts i b q R e0 x0 f
+  module _ (s : Do) (r0 : Children) (p : Parts) (st : Started ts r0 p) (e : s ≡ prefix q ts) where
+    pub reached_first : {K : Type 0} (R : K → K → Children → Forest → Type 0) (e0 x0 : K) (f : Found) → T (eats (prefix q ts)) → R e0 e0 r0 nil → Made b s p R e0 x0 f → Reached ts b q R e0 x0 f
     reached_first R e0 x0 f o rn m =
         let (us, (k, r), h) = m.run in
         let one : 1 ≤ own s = own_true s (subst (λ (x : Do). T (eats x)) (sym e) o) in
-        let y : Ran = ran f.traits.form us f.hi (view ts f.end) in
+        let y : Ran = ran f.traits.form us f.hi f.ahead.now in
         record {
-          rows = row_at R x0 e0 f (lo_of (view ts i)) us (sym (m.lo ∙ st.lo)) (m.rows e0 nil (subst (λ (r : Row). R e0 e0 r nil) (sym st.row) rn));
-          few = omega (arith, m.few, st.records, st.end, one);
-          nests = m.nests;
-          within = m.within;
+          rows = row_at R x0 e0 f (lo_of ts) us (sym (m.lo ∙ st.lo)) (m.rows e0 nil (subst (λ (r : Children). R e0 e0 r nil) (sym st.row) rn));
+          few = omega (arith, m.few, st.records, ap length st.ahead, one);
           tree = (
-            begun (view ts i) y,
-            shape_node us f (lo_of (view ts i)) (sym (m.lo ∙ st.lo)) (h nil (holds_nil ts i r0 p st)),
-            (k, λ n le. (suc n, omega arith, parse_one n b q (view ts i) y (rw (e, st.hi, st.end) at (r n le)))),
+            begun ts y,
+            shape_node us f (lo_of ts) (sym (m.lo ∙ st.lo)) (h nil (holds_nil ts r0 p st)),
+            (k, λ n le. (suc n, omega arith, parse_one n b q ts y (rw (e, st.hi, st.ahead) at (r n le)))),
           );
         }
 
-    pub refused_first : (room inner : ℕ) (x : Unread) → 0 < room → inner ≡ room - 1 → NotMade ts b s p inner x → NotParsed ts i b q room x
+    pub refused_first : (room inner : ℕ) (x : Unread) → 0 < room → inner ≡ room - 1 → NotMade b s p inner x → NotParsed ts b q room x
     refused_first room inner x pos is nm n t r h =
-        let (m, y, h1, h2) = parse_inv n b q (view ts i) (t, r) h in
-        let h3 : perform m b s p.hi (view ts p.end) ≡ some y = rw (e, st.hi, st.end) h1 in
-        bad_up x inner room (depths y.kids) (depth t) pos is (nm m y h3) (omega (arith, depth_node (head y.form (lo_of (view ts i)) y.upto) y.kids, grow m b q (begun (view ts i) y) y.left t r h2))
+        let (m, y, h1, h2) = parse_inv n b q ts (t, r) h in
+        let h3 : perform m b s p.hi p.ahead.now ≡ some y = rw (e, st.hi, st.ahead) h1 in
+        bad_up x inner room (depths y.kids) (depth t) pos is (nm m y h3) (omega (arith, depth_node (head y.form (lo_of ts) y.upto) y.kids, grow m b q (begun ts y) y.left t r h2))
 
-  module _ {K : Type 0} (R : K → K → Row → Forest → Type 0) (d0 m0 : K) (l : Found) (re : Reached ts i b q R d0 m0 l) (s : Do) (p : Parts) (al : Alone l p) (a : After) (ch : Bool) (tn : Turns a ch s) (ea : a ≡ next (view ts l.end)) (ec : ch ≡ is_o (standing_of l)) (on : Onward ts b q l true) where
-    does : (t : Tree) → Shape t l → s ≡ frame_do (next (view ts l.end)) (attr t).standing
+  module _ {K : Type 0} (R : K → K → Children → Forest → Type 0) (d0 m0 : K) (l : Found) (re : Reached ts b q R d0 m0 l) (s : Do) (p : Parts) (al : Alone l p) (a : After) (ch : Bool) (tn : Turns a ch s) (ea : a ≡ next l.ahead.now) (ec : ch ≡ is_o (standing_of l)) (on : Onward b q l true) where
+    does : (t : Tree) → Shape t l → s ≡ frame_do (next l.ahead.now) (attr t).standing
     does t sh = tn (attr t).standing (ap is_o (stands t l sh) ∙ sym ec) ∙ ap (λ (z : After). frame_do z (attr t).standing) ea
 
-    goes : (t : Tree) → Shape t l → goes_on b q (attr t) (frame (next (view ts l.end))) ≡ true
+    goes : (t : Tree) → Shape t l → goes_on b q (attr t) (frame (next l.ahead.now)) ≡ true
     goes t sh = sym (on (attr t) (sorted t l sh) (stands t l sh))
 
     one : 1 ≤ own s
-    one = let (t, sh, w) = re.tree in own_true s (subst (λ (x : Do). T (eats x)) (sym (does t sh)) (frame_eats (next (view ts l.end)) (attr t).standing))
+    one = let (t, sh, w) = re.tree in own_true s (subst (λ (x : Do). T (eats x)) (sym (does t sh)) (frame_eats (next l.ahead.now) (attr t).standing))
 
-    more_below : (x0 : K) (f : Found) → Made ts b s p R m0 x0 f → l.below + 1 ≤ f.below
+    more_below : (x0 : K) (f : Found) → Made b s p R m0 x0 f → l.below + 1 ≤ f.below
     unfolding sizes
     more_below x0 f m =
         let (t, sh, w) = re.tree in
         let (us, rr, h) = m.run in
         omega (arith, (h (t ▸ nil) (holds_one t l p sh al)).records, sh.records)
 
-    pub longer : (x0 : K) (f : Found) → Made ts b s p R m0 x0 f → l.end < f.end
-    longer x0 f m = omega (arith, m.few, al.records, al.end, one, more_below x0 f m)
+    pub longer : (x0 : K) (f : Found) → Made b s p R m0 x0 f → length f.ahead.now < length l.ahead.now
+    longer x0 f m = omega (arith, m.few, al.records, ap length al.ahead, one, more_below x0 f m)
 
-    pub climbed_next : (e0 x0 : K) (f0 f : Found) → Climbed ts i b q R e0 m0 f0 l → Made ts b s p R m0 x0 f → Climbed ts i b q R e0 x0 f0 f
-    climbed_next e0 x0 f0 f cl m =
+    pub reached_next : (x0 : K) (f : Found) → Made b s p R m0 x0 f → Reached ts b q R d0 x0 f
+    reached_next x0 f m =
+        let (t, sh, (k, w)) = re.tree in
+        let (us, (k2, r), h) = m.run in
+        let y : Ran = ran f.traits.form us f.hi f.ahead.now in
+        let hi : p.hi ≡ (head_of t).hi = al.hi ∙ sym (ap (λ (z : Head). z.hi) sh.heads) in
+        let lo : (head_of t).lo ≡ f.lo = ap (λ (z : Head). z.lo) sh.heads ∙ sym (m.lo ∙ al.lo) in
         record {
-          few = omega (arith, re.few, m.few, al.records, al.end, one);
-          nests = m.nests;
-          within = m.within;
-          tree = λ t0 sh0.
-              let (t, sh, (k, w), rs) = cl.tree t0 sh0 in
-              let (us, (k2, r), h) = m.run in
-              let y : Ran = ran f.traits.form us f.hi (view ts f.end) in
-              let hi : p.hi ≡ (head_of t).hi = al.hi ∙ sym (ap (λ (z : Head). z.hi) sh.heads) in
-              let lo : (head_of t).lo ≡ f.lo = ap (λ (z : Head). z.lo) sh.heads ∙ sym (m.lo ∙ al.lo) in (
-                grown_on t y,
-                shape_node (t ▸ us) f (head_of t).lo lo (h (t ▸ nil) (holds_one t l p sh al)),
-                (k + k2, λ n le. let (n2, le2, e) = w (suc n) (omega arith) in (n2, omega arith, e ∙ loop_on n b q t (view ts l.end) y (goes t sh) (rw (does t sh, hi, al.end) at (r n (omega arith))))),
-                λ z hz. row_at R x0 z f (head_of t).lo (t ▸ us) lo (m.rows z (t ▸ nil) (subst (λ (r : Row). R m0 z r (t ▸ nil)) (sym al.row) (rs z hz))),
-              );
+          rows = row_at R x0 d0 f (head_of t).lo (t ▸ us) lo (m.rows d0 (t ▸ nil) (subst (λ (r : Children). R m0 d0 r (t ▸ nil)) (sym al.row) re.rows));
+          few = omega (arith, re.few, m.few, al.records, ap length al.ahead, one);
+          tree = (
+            grown_on t y,
+            shape_node (t ▸ us) f (head_of t).lo lo (h (t ▸ nil) (holds_one t l p sh al)),
+            (k + k2, λ n le. let (n2, le2, e) = w (suc n) (omega arith) in (n2, omega arith, e ∙ loop_on n b q t l.ahead.now y (goes t sh) (rw (does t sh, hi, al.ahead) at (r n (omega arith))))),
+          );
         }
 
-    pub refused_next : (room inner : ℕ) (x : Unread) → 0 < room → inner ≡ room - 1 → NotMade ts b s p inner x → NotParsed ts i b q room x
+    pub refused_next : (room inner : ℕ) (x : Unread) → 0 < room → inner ≡ room - 1 → NotMade b s p inner x → NotParsed ts b q room x
     refused_next room inner x pos is nm n u r h =
         let (t, sh, (k, w)) = re.tree in
         let (n2, le, e) = w (suc (k + n)) (omega arith) in
         let hi : p.hi ≡ (head_of t).hi = al.hi ∙ sym (ap (λ (z : Head). z.hi) sh.heads) in
-        let (y, h1, h2) = loop_inv (k + n) b q t (view ts l.end) (u, r) (goes t sh) (sym e ∙ raise_p n n2 b q (view ts i) (u, r) (omega arith) h) in
-        let h3 : perform (k + n) b s p.hi (view ts p.end) ≡ some y = perform_same (k + n) b s (frame_do (next (view ts l.end)) (attr t).standing) p.hi (head_of t).hi (view ts p.end) (view ts l.end) y (does t sh) hi (ap (view ts) al.end) h1 in
+        let (y, h1, h2) = loop_inv (k + n) b q t l.ahead.now (u, r) (goes t sh) (sym e ∙ raise_p n n2 b q ts (u, r) (omega arith) h) in
+        let h3 : perform (k + n) b s p.hi p.ahead.now ≡ some y = perform_same (k + n) b s (frame_do (next l.ahead.now) (attr t).standing) p.hi (head_of t).hi p.ahead.now l.ahead.now y (does t sh) hi al.ahead h1 in
         bad_up x inner room (depths y.kids) (depth u) pos is (nm (k + n) y h3) (omega (arith, depth_kids (head y.form (head_of t).lo y.upto) t y.kids, grow (k + n) b q (grown_on t y) y.left u r h2))
 
-  pub stopped : {K : Type 0} (R : K → K → Row → Forest → Type 0) (e0 x0 : K) (f : Found) → Reached ts i b q R e0 x0 f → Onward ts b q f false → Parsed ts i b q R e0 x0 f
+  pub stopped : {K : Type 0} (R : K → K → Children → Forest → Type 0) (e0 x0 : K) (f : Found) → Reached ts b q R e0 x0 f → Onward b q f false → Parsed ts b q R e0 x0 f
   stopped R e0 x0 f re off =
       let (t, sh, (k, w)) = re.tree in
       let (n, le, e) = w (suc k) (omega arith) in
-      record { few = re.few; nests = re.nests; within = re.within; tree = (t, sh, (n, λ m l. raise_p n m b q (view ts i) (t, view ts f.end) l (e ∙ loop_off k b q t (view ts f.end) (sym (off (attr t) (sorted t f sh) (stands t f sh))))), re.rows) }
-
-  -- the loop begins
-  pub climbed_none : {K : Type 0} (R : K → K → Row → Forest → Type 0) (d0 e0 : K) (f : Found) → Reached ts i b q R d0 e0 f → Climbed ts i b q R e0 e0 f f
-  climbed_none R d0 e0 f re = record { few = re.few; nests = re.nests; within = re.within; tree = λ t sh. (t, sh, (0, λ m le. (m, omega arith, refl)), λ z h. h) }
-
-  -- what was found before the loop, and in it
-  pub joined : {K : Type 0} (R : K → K → Row → Forest → Type 0) (d0 e0 x0 : K) (f0 f : Found) → Reached ts i b q R d0 e0 f0 → Climbed ts i b q R e0 x0 f0 f → Reached ts i b q R d0 x0 f
-  joined R d0 e0 x0 f0 f re cl =
-      let (t0, sh0, (k0, w0)) = re.tree in
-      let (t, sh, (k, w), rs) = cl.tree t0 sh0 in
-      record {
-        few = cl.few;
-        nests = cl.nests;
-        within = cl.within;
-        tree = (t, sh, (k0 + k, λ m le. let (n, l, e) = w m (omega arith) in let (n2, l2, e2) = w0 n (omega arith) in (n2, omega arith, e2 ∙ e)));
-        rows = rs d0 re.rows;
-      }
+      record { few = re.few; tree = (t, sh, (n, λ m l. raise_p n m b q ts (t, f.ahead.now) l (e ∙ loop_off k b q t f.ahead.now (sym (off (attr t) (sorted t f sh) (stands t f sh))))), re.rows) }

@@ -6,7 +6,7 @@
 --
 -- Assumes nothing.
 use Rattle.std.specs.Prelude.{◌≡◌, ℕ, ◌≤◌, List, length}
-use Rattle.chain.specs.Chain.{Chain}
+use Rattle.chain.specs.Chain.{SameLoan, Chain}
 use Rattle.token.specs.declared.Token.{Token}
 use Rattle.grammar.specs.Tree.{Tree, nil, ◌▸◌, size, depth}
 use Rattle.grammar.specs.Claim.{Reads}
@@ -17,7 +17,7 @@ use Rattle.records.specs.Building.{Stands}
 use Rattle.records.specs.declared.store.Store.{Store}
 
 pub record Built (e x : Store) (k : ℕ) (t : Tree) : Type 0 where
-  pub lender : x.slots.ghost_name ≡ e.slots.ghost_name
+  pub lender : SameLoan e.slots x.slots
   pub tree : Stands e.slots.now e.free x.slots.now x.free k k (t ▸ nil)
 
 pub record Ready (ts : List Token) (e : Store) (t : Tree) (ks : List ℕ) : Type 0 where
@@ -27,7 +27,7 @@ pub record Ready (ts : List Token) (e : Store) (t : Tree) (ks : List ℕ) : Type
   pub enough : size t ≤ length ks
 
 pub record LoadedAt (e x : Store) (k : ℕ) (t : Tree) : Type 0 where
-  pub lender : x.slots.ghost_name ≡ e.slots.ghost_name
+  pub lender : SameLoan e.slots x.slots
   pub records : List Record
   pub tree : Stands e.slots.now e.free records x.free k k (t ▸ nil)
   pub marked : x.slots.now ≡ stamped records k mark.Loaded

@@ -3,7 +3,7 @@
 --
 --   Shape t f, Holds us p, Shaped us f     what is kept of a tree, of children, of a record over children
 --   Parsed Made NotMade   the promises of the two functions that call each other
---   Carried Climbed       what holds in their loops
+--   Carried Reached       what holds in their loops
 --
 -- Assumes nothing.
 use Rattle.std.specs.Prelude.{◌≡◌, ℕ, ◌+◌, ◌<◌, ◌≤◌, max, Bool, true, false, ◌&&◌, List, [], ◌∷◌, ◌++◌, length, Some, None, Option as OptionR}
@@ -20,23 +20,22 @@ use Rattle.grammar.specs.Derives.{lo_of}
 use Rattle.grammar.specs.Parser.{Goal, Do, Ran, ran, parse, loop, perform, goes_on, frame, next, starts}
 use Rattle.fitting.specs.Traits.{traits_of}
 use Rattle.fitting.specs.Summary.{Sums}
-use Rattle.reader.specs.Table.{view}
 use Rattle.reader.specs.Rows.{single}
-use Rattle.reader.specs.declared.sink.Row.{Row}
+use Rattle.records.specs.declared.build.Children.{Children}
 use Rattle.reader.specs.Reads.{own, Reads, Runs, graft, Bad}
 use Rattle.recognizer.specs.declared.found.Found.{Found}
 use Rattle.recognizer.specs.declared.found.Parts.{Parts}
-use Rattle.reader.specs.declared.tree.Unread.{Unread}
+use Rattle.reader.specs.declared.unread.Unread.{Unread}
 
 abbrev pub standing_of : Found → Standing
 standing_of f = (traits_of f.traits).standing
 
-pub record Started (ts : List Token) (i : ℕ) (r : Row) (p : Parts) : Type 0 where
+pub record Started (ks : List Token) (r : Children) (p : Parts) : Type 0 where
   pub children : Sums [] p.children
   pub fit : p.good ≡ true
-  pub lo : p.lo ≡ lo_of (view ts i)
+  pub lo : p.lo ≡ lo_of ks
   pub hi : p.hi ≡ 0
-  pub end : p.end ≡ i
+  pub ahead : p.ahead.now ≡ ks
   pub records : p.size ≡ 0
   pub nests : p.depth ≡ 0
   pub row : p.row ≡ r
@@ -46,17 +45,17 @@ pub record Alone (f : Found) (p : Parts) : Type 0 where
   pub fit : p.good ≡ f.good
   pub lo : p.lo ≡ f.lo
   pub hi : p.hi ≡ f.hi
-  pub end : p.end ≡ f.end
+  pub ahead : p.ahead.now ≡ f.ahead.now
   pub records : p.size ≡ f.below + 1
   pub nests : p.depth ≡ f.under + 1
   pub row : p.row ≡ single f.slot
 
-pub record Joined (p : Parts) (f : Found) (r : Row) (q : Parts) : Type 0 where
+pub record Joined (p : Parts) (f : Found) (r : Children) (q : Parts) : Type 0 where
   pub children : (cs : List Attr) → Sums cs p.children → Sums (cs ++ (traits_of f.traits ∷ [])) q.children
   pub fit : q.good ≡ p.good && f.good
   pub lo : q.lo ≡ p.lo
   pub hi : q.hi ≡ f.hi
-  pub end : q.end ≡ f.end
+  pub ahead : q.ahead.now ≡ f.ahead.now
   pub records : q.size ≡ p.size + f.below + 1
   pub nests : q.depth ≡ max p.depth (f.under + 1)
   pub row : q.row ≡ r
@@ -67,7 +66,7 @@ pub record Completed (p : Parts) (g : Form) (n : ℕ) (f : Found) : Type 0 where
   pub fit : (cs : List Attr) → Sums cs p.children → f.good ≡ fit_kids (layout g cs) cs && p.good
   pub lo : f.lo ≡ p.lo
   pub hi : f.hi ≡ p.hi
-  pub end : f.end ≡ p.end
+  pub ahead : f.ahead.now ≡ p.ahead.now
   pub slot : f.slot ≡ n
   pub records : f.below ≡ p.size
   pub nests : f.under ≡ p.depth
@@ -91,57 +90,40 @@ pub record Shaped (us : Forest) (f : Found) : Type 0 where
   pub records : sizes us ≡ f.below
   pub nests : depths us ≡ f.under
 
-pub record Parsed {K : Type 0} (ts : List Token) (i : ℕ) (b : Bool) (q : Goal) (R : K → K → Row → Forest → Type 0) (e x : K) (f : Found) : Type 0 where
-  pub few : i + f.below < f.end
-  pub nests : f.under ≤ f.below
-  pub within : f.end ≤ length ts
-  pub tree : (t : Tree) × Shape t f × Reads b q (view ts i) t (view ts f.end) × R x e (single f.slot) (t ▸ nil)
+pub record Parsed {K : Type 0} (ks : List Token) (b : Bool) (q : Goal) (R : K → K → Children → Forest → Type 0) (e x : K) (f : Found) : Type 0 where
+  pub few : f.below + length f.ahead.now < length ks
+  pub tree : (t : Tree) × Shape t f × Reads b q ks t f.ahead.now × R x e (single f.slot) (t ▸ nil)
 
-pub record Made {K : Type 0} (ts : List Token) (b : Bool) (s : Do) (p : Parts) (R : K → K → Row → Forest → Type 0) (e x : K) (f : Found) : Type 0 where
-  pub few : f.below + p.end + own s ≤ p.size + f.end
-  pub nests : f.under ≤ f.below
-  pub within : f.end ≤ length ts
+pub record Made {K : Type 0} (b : Bool) (s : Do) (p : Parts) (R : K → K → Children → Forest → Type 0) (e x : K) (f : Found) : Type 0 where
+  pub few : f.below + own s + length f.ahead.now ≤ p.size + length p.ahead.now
   pub lo : f.lo ≡ p.lo
-  pub run : (us : Forest) × Runs b s p.hi (view ts p.end) (ran f.traits.form us f.hi (view ts f.end)) × ((ws : Forest) → Holds ws p → Shaped (ws ⊕ us) f)
+  pub run : (us : Forest) × Runs b s p.hi p.ahead.now (ran f.traits.form us f.hi f.ahead.now) × ((ws : Forest) → Holds ws p → Shaped (ws ⊕ us) f)
   pub rows : (z : K) (ws : Forest) → R e z p.row ws → R x z (single f.slot) (node (head f.traits.form f.lo f.hi) (ws ⊕ run.0) ▸ nil)
 
-abbrev pub NotMade : List Token → Bool → Do → Parts → ℕ → Unread → Type 0
-NotMade ts b s p room e = (n : ℕ) (y : Ran) → perform n b s p.hi (view ts p.end) ≡ some y → Bad e room (depths y.kids)
+abbrev pub NotMade : Bool → Do → Parts → ℕ → Unread → Type 0
+NotMade b s p room e = (n : ℕ) (y : Ran) → perform n b s p.hi p.ahead.now ≡ some y → Bad e room (depths y.kids)
 
 -- Since the loop began at p0 with s0 to do: the children us have come, and s is left to do at p.
-pub record Carried {K : Type 0} (ts : List Token) (b : Bool) (s0 : Do) (p0 : Parts) (R : K → K → Row → Forest → Type 0) (e x : K) (s : Do) (p : Parts) : Type 0 where
-  pub few : p.size + p0.end + own s0 ≤ p0.size + p.end + own s
-  pub fewer : p.size + p0.end ≤ p0.size + p.end
-  pub nests : p.depth ≤ p.size
-  pub within : p.end ≤ length ts
+pub record Carried {K : Type 0} (b : Bool) (s0 : Do) (p0 : Parts) (R : K → K → Children → Forest → Type 0) (e x : K) (s : Do) (p : Parts) : Type 0 where
+  pub few : p.size + own s0 + length p.ahead.now ≤ p0.size + length p0.ahead.now + own s
+  pub fewer : p.size + length p.ahead.now ≤ p0.size + length p0.ahead.now
   pub lo : p.lo ≡ p0.lo
-  pub run : (us : Forest) × ((ws : Forest) → Holds ws p0 → Holds (ws ⊕ us) p) × ((k : ℕ) × ((m : ℕ) → k ≤ m → (n : ℕ) × (m ≤ n) × (perform n b s0 p0.hi (view ts p0.end) ≡ graft us (perform m b s p.hi (view ts p.end)))))
+  pub run : (us : Forest) × ((ws : Forest) → Holds ws p0 → Holds (ws ⊕ us) p) × ((k : ℕ) × ((m : ℕ) → k ≤ m → (n : ℕ) × (m ≤ n) × (perform n b s0 p0.hi p0.ahead.now ≡ graft us (perform m b s p.hi p.ahead.now))))
   pub rows : (z : K) (ws : Forest) → R e z p0.row ws → R x z p.row (ws ⊕ run.0)
 
--- What the grammar's reader finds at i is what it finds behind the tree so far.
-pub record Reached {K : Type 0} (ts : List Token) (i : ℕ) (b : Bool) (q : Goal) (R : K → K → Row → Forest → Type 0) (e x : K) (f : Found) : Type 0 where
-  pub few : i + f.below < f.end
-  pub nests : f.under ≤ f.below
-  pub within : f.end ≤ length ts
-  pub tree : (t : Tree) × Shape t f × ((k : ℕ) × ((m : ℕ) → k ≤ m → (n : ℕ) × (m ≤ n) × (parse n b q (view ts i) ≡ loop m b q t (view ts f.end))))
+-- What the grammar's reader finds at ks is what it finds behind the tree so far.
+pub record Reached {K : Type 0} (ks : List Token) (b : Bool) (q : Goal) (R : K → K → Children → Forest → Type 0) (e x : K) (f : Found) : Type 0 where
+  pub few : f.below + length f.ahead.now < length ks
+  pub tree : (t : Tree) × Shape t f × ((k : ℕ) × ((m : ℕ) → k ≤ m → (n : ℕ) × (m ≤ n) × (parse n b q ks ≡ loop m b q t f.ahead.now)))
   pub rows : R x e (single f.slot) (tree.0 ▸ nil)
 
--- Since the loop began, with f0: what the grammar's reader finds behind f0 is what it finds behind the tree so far.
-pub record Climbed {K : Type 0} (ts : List Token) (i : ℕ) (b : Bool) (q : Goal) (R : K → K → Row → Forest → Type 0) (e x : K) (f0 f : Found) : Type 0 where
-  pub few : i + f.below < f.end
-  pub nests : f.under ≤ f.below
-  pub within : f.end ≤ length ts
-  pub tree : (t0 : Tree) → Shape t0 f0 → (t : Tree) × Shape t f × ((k : ℕ) × ((m : ℕ) → k ≤ m → (n : ℕ) × (m ≤ n) × (loop n b q t0 (view ts f0.end) ≡ loop m b q t (view ts f.end)))) × ((z : K) → R e z (single f0.slot) (t0 ▸ nil) → R x z (single f.slot) (t ▸ nil))
-
 -- Whether a tree of the shape f goes on behind f.
-abbrev pub Onward : List Token → Bool → Goal → Found → Bool → Type 0
-Onward ts b q f r = (a : Attr) → a.sort ≡ sort_of f.traits.form → a.standing ≡ standing_of f → r ≡ goes_on b q a (frame (next (view ts f.end)))
+abbrev pub Onward : Bool → Goal → Found → Bool → Type 0
+Onward b q f r = (a : Attr) → a.sort ≡ sort_of f.traits.form → a.standing ≡ standing_of f → r ≡ goes_on b q a (frame (next f.ahead.now))
 
--- The parts p behind the token c, if it is the next.
-pub record Behind (ts : List Token) (p : Parts) (c : Code) (q : Parts) : Type 0 where
-  pub next : (k : Token) × (view ts p.end ≡ k ∷ view ts (p.end + 1)) × (same_code k.code c ≡ true) × (q.hi ≡ k.hi)
-  pub within : p.end < length ts
-  pub end : q.end ≡ p.end + 1
+-- The parts q are p behind the token c, which was the next.
+pub record Behind (p : Parts) (c : Code) (q : Parts) : Type 0 where
+  pub next : (k : Token) × (p.ahead.now ≡ k ∷ q.ahead.now) × (same_code k.code c ≡ true) × (q.hi ≡ k.hi)
   pub children : q.children ≡ p.children
   pub fit : q.good ≡ p.good
   pub lo : q.lo ≡ p.lo
@@ -149,6 +131,6 @@ pub record Behind (ts : List Token) (p : Parts) (c : Code) (q : Parts) : Type 0 
   pub nests : q.depth ≡ p.depth
   pub row : q.row ≡ p.row
 
-abbrev pub Eaten : List Token → Parts → Code → OptionR Parts → Type 0
-Eaten ts p c None = starts c (view ts p.end) ≡ false
-Eaten ts p c (Some q) = Behind ts p c q
+abbrev pub Eaten : Parts → Code → OptionR Parts → Type 0
+Eaten p c None = starts c p.ahead.now ≡ false
+Eaten p c (Some q) = Behind p c q

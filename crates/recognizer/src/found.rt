@@ -1,121 +1,39 @@
 // What is known of a record that was read, and of one whose children are still being read.
 
-ghost use Rattle.std.specs.Prelude.{◌≡◌, ◌+◌, ◌<◌, ◌≤◌, length};
-ghost use Rattle.grammar.specs.Derives.{lo_of};
-ghost use Rattle.reader.specs.Table.{view};
-ghost use Rattle.recognizer.specs.Reads.{Started, Alone, Joined, Completed};
+ghost use Rattle.std.specs.Prelude.{◌≤◌};
 
-use fitting::{Summary, Traits, children_fit, traits_of};
-use kinds::Form;
-use reader::sink::Row;
+use fitting::{Summary, Traits};
+use records::Children;
 use token::Token;
 
 /// A tree that was read: what the place where it stands can ask of it, whether in each of its records the children fit, its
-/// root's place, where the tokens behind it begin, the number of the records below its root, how deep these nest, and
-/// where the sink keeps it.
+/// root's place, the tokens behind it, the number of the records below its root, how deep these nest, and where the sink
+/// keeps it.
 #[derive(Clone, Copy)]
-pub struct Found {
+pub struct Found<'a> {
     pub traits: Traits,
     pub good: bool,
     pub lo: u32,
     pub hi: u32,
-    pub end: usize,
+    pub ahead: &'a [Token],
     pub below: usize,
     pub under: usize,
     pub slot: u16,
+    ghost nests: { under ≤ below },
 }
 
 /// A record's children as far as they are read: what is kept of them, whether the children fit in each record below, where
-/// the record begins and where the last token read ends, where the tokens behind it begin, the number and nesting of
-/// the children's records, and the row that they stand in.
+/// the record begins and where the last token read ends, the tokens behind it, the number and nesting of the children's
+/// records, and the row that they stand in.
 #[derive(Clone, Copy)]
-pub struct Parts {
+pub struct Parts<'a> {
     pub children: Summary,
     pub good: bool,
     pub lo: u32,
     pub hi: u32,
-    pub end: usize,
+    pub ahead: &'a [Token],
     pub size: usize,
     pub depth: usize,
-    pub row: Row,
-}
-
-/// Where the token at `at` begins, if there is one.
-fn lo_at(tokens: &[Token], at: usize) -> u32
-    requires { at ≤ length tokens.now }
-    ensures { result ≡ lo_of (view tokens.now at) }
-{
-    if at < tokens.len() { tokens[at].lo } else { 0 }
-}
-
-/// A record that begins at `at`, over a row of no trees.
-pub fn start_at(tokens: &[Token], at: usize, row: Row) -> Parts
-    requires { at ≤ length tokens.now }
-    ensures { Started tokens.now at row result }
-{
-    Parts {
-        children: Summary::empty(),
-        good: true,
-        lo: lo_at(tokens, at),
-        hi: 0,
-        end: at,
-        size: 0,
-        depth: 0,
-        row,
-    }
-}
-
-/// A record whose first child is `found`.
-pub fn start_with(found: Found) -> Parts
-    requires few { found.below < found.end }
-    requires nests { found.under ≤ found.below }
-    ensures { Alone found result }
-{
-    Parts {
-        children: Summary::empty().with(found.traits),
-        good: found.good,
-        lo: found.lo,
-        hi: found.hi,
-        end: found.end,
-        size: found.below + 1,
-        depth: found.under + 1,
-        row: Row {
-            first: found.slot,
-            last: found.slot,
-        },
-    }
-}
-
-/// The parts with one more child, which makes the row of them `row`.
-pub fn join(parts: Parts, child: Found, row: Row) -> Parts
-    requires few { parts.size + child.below < child.end }
-    requires nests { child.under ≤ child.below }
-    ensures { Joined parts child row result }
-{
-    Parts {
-        children: parts.children.with(child.traits),
-        good: parts.good & child.good,
-        lo: parts.lo,
-        hi: child.hi,
-        end: child.end,
-        size: parts.size + child.below + 1,
-        depth: parts.depth.max(child.under + 1),
-        row,
-    }
-}
-
-/// The record of this form over all its parts, kept at `slot`.
-pub fn complete(parts: Parts, form: Form, slot: u16) -> Found
-    ensures { Completed parts form slot result }
-{
-    Found {
-        traits: traits_of(form, parts.children),
-        good: children_fit(form, parts.children) & parts.good,
-        lo: parts.lo,
-        hi: parts.hi,
-        end: parts.end,
-        below: parts.size,
-        under: parts.depth,
-        slot,
-    }
+    pub row: Children,
+    ghost nests: { depth ≤ size },
 }

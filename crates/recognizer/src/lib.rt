@@ -3,8 +3,9 @@
 #![tactic(auto)]
 
 pub mod found;
+pub mod parts;
 pub mod read;
 pub mod tree;
 
 pub use read::{build, load, recognize};
-pub use reader::tree::Unread;
+pub use reader::Unread;

@@ -8,8 +8,8 @@ ghost use Rattle.recognizer.specs.Width.{Recognized};
 ghost use Rattle.recognizer.specs.Passes.{Built, Ready, LoadedAt};
 
 use crate::tree::script;
-use reader::sink::keep_nothing;
-use reader::tree::Unread;
+use reader::Unread;
+use reader::sink::Nothing;
 use records::{Mark, Store, stamp};
 use token::Token;
 
@@ -17,11 +17,8 @@ use token::Token;
 pub fn recognize(tokens: &[Token]) -> Result<u64, Unread>
     ensures { MatchResult result (λ n. Recognized tokens.now n) (λ e. NotScript tokens.now e) }
 {
-    let mut nothing = keep_nothing();
-    match script(tokens, &mut nothing) {
-        Ok(found) => Ok(found.below as u64 + 1),
-        Err(why) => Err(why),
-    }
+    let found = script(tokens, &mut Nothing)?;
+    Ok(found.below as u64 + 1)
 }
 
 /// Puts up the tree that the tokens derive, from free records, and answers the slot of its root. Nothing is promised where

@@ -1,180 +1,145 @@
 // Reads a tree: children before their parent, siblings and what follows an expression in loops.
 
-ghost use Rattle.std.specs.Prelude.{◌≡◌, ◌≤◌, length, MatchResult};
+ghost use Rattle.std.specs.Prelude.{◌≡◌, ◌+◌, ◌^◌, ◌<◌, ◌≤◌, length, MatchResult};
 ghost use Rattle.grammar.specs.Parser.{takes, frame, mode as mode_in};
 ghost use Rattle.reader.specs.Table.{do_of, goal_of, mode_of, turn_of};
 ghost use Rattle.reader.specs.Reads.{NotParsed};
-ghost use Rattle.recognizer.specs.Reads.{standing_of, Parsed, Made, NotMade, Onward, Eaten};
+ghost use Rattle.recognizer.specs.Reads.{standing_of, Parsed, Made, NotMade, Onward};
 ghost use Rattle.reader.specs.Width.{NotScript, refused_of};
-ghost use Rattle.recognizer.specs.Width.{Scripted};
+ghost use Rattle.recognizer.specs.Width.{Whole, Scripted};
 
-use crate::found::{Found, Parts, complete, join, start_at, start_with};
+use crate::found::{Found, Parts};
 use kinds::Slot;
 use kinds::level::fits;
 use reader::begin::begin;
-use reader::glance::token_at;
-use reader::goal::Goal;
+use reader::goal::{Goal, allowed};
 use reader::rest::{Body, Rest};
 use reader::sink::Sink;
 use reader::step::{Step, next_step};
-use reader::tree::{Unread, allowed, refused};
 use reader::turn::{Turn, behind, first_slot, grown, stands, turn_at};
-use token::{Code, Token};
+use reader::unread::{Unread, refused};
+use records::Head;
+use token::Token;
 
 /// Whether the expression goes on with the token behind it, when it is read for the slot.
 fn taken(left: Found, turn: Turn, slot: Slot, allow_in: bool) -> bool
-    ensures { result ≡ takes allow_in slot (standing_of left) (frame (turn_of turn)) }
+    ensures { result ≡ takes allow_in slot (standing_of left.entry) (frame (turn_of turn)) }
 {
-    if !stands(turn, allow_in) {
-        return false;
-    }
-    if !left.traits.suits(first_slot(turn)) {
-        return false;
-    }
-    fits(
-        slot,
-        grown(turn, left.traits.is_chain()),
-        left.traits.is_call(),
-        left.traits.is_target(),
-    )
+    let traits = left.traits;
+    let form = grown(turn, traits.is_chain());
+    stands(turn, allow_in)
+        && traits.suits(first_slot(turn))
+        && fits(slot, form, traits.is_call(), traits.is_target())
 }
 
 /// Whether what was read for the goal goes on with the token behind it.
-fn goes_on(tokens: &[Token], left: Found, goal: Goal, allow_in: bool) -> bool
-    requires { left.end ≤ length tokens.now }
-    ensures { Onward tokens.now allow_in (goal_of goal) left result }
+fn goes_on(left: Found, goal: Goal, allow_in: bool) -> bool
+    ensures { Onward allow_in (goal_of goal) left.entry result }
 {
     match goal {
         Goal::Expression(slot) => left.traits.is_expression()
-            && taken(left, turn_at(tokens, left.end), slot, allow_in),
+            && taken(left, turn_at(left.ahead), slot, allow_in),
         _ => false,
     }
-}
-
-/// The parts behind the token `code`, if it is the next.
-fn eaten(tokens: &[Token], parts: Parts, code: Code) -> Option<Parts>
-    requires { parts.end ≤ length tokens.now }
-    ensures { Eaten tokens.now parts code result }
-{
-    let Some(token) = token_at(tokens, parts.end) else {
-        return None;
-    };
-    if !token.code.same(code) {
-        return None;
-    }
-    Some(Parts {
-        children: parts.children,
-        good: parts.good,
-        lo: parts.lo,
-        hi: token.hi,
-        end: parts.end + 1,
-        size: parts.size,
-        depth: parts.depth,
-        row: parts.row,
-    })
 }
 
 /// A record: what is left to read of it, from `begun` on, with its parts in `start`; its other children nest at most
 /// `inner` deep.
 #[cycle(record_tree)]
-fn record<S: Sink>(
-    tokens: &[Token],
+fn record<'a, S: Sink>(
     begun: Rest,
-    start: Parts,
+    start: Parts<'a>,
     allow_in: bool,
     inner: usize,
     sink: &mut S,
-) -> Result<Found, Unread>
-    requires within { start.end ≤ length tokens.now }
-    requires few { start.size ≤ start.end }
-    requires nests { start.depth ≤ start.size }
-    ensures { MatchResult result (λ f. Made tokens.now allow_in (do_of begun) start S.rows sink.old sink.new f) (λ e. NotMade tokens.now allow_in (do_of begun) start inner e) }
+) -> Result<Found<'a>, Unread>
+    requires { start.size + length start.ahead.now < 2 ^ 63 }
+    ensures { MatchResult result (λ f. Made allow_in (do_of begun) start.entry S.rows sink.old sink.new f) (λ e. NotMade allow_in (do_of begun) start.entry inner e) }
 {
     let mut rest = begun;
     let mut parts = start;
     loop {
-        match next_step(tokens, parts.end, rest) {
+        match next_step(parts.ahead, rest) {
             Step::Fail => return Err(Unread::NoDerivation),
             Step::Finish(form) => {
-                let slot = sink.nest(form, parts.row, parts.lo, parts.hi);
-                return Ok(complete(parts, form, slot));
+                let head = Head {
+                    form,
+                    lo: parts.lo,
+                    hi: parts.hi,
+                };
+                let slot = sink.nest(head, parts.row);
+                return Ok(parts.complete(form, slot));
             }
             Step::Eat(code, then) => {
-                let Some(next) = eaten(tokens, parts, code) else {
+                let Some(next) = parts.eat(code) else {
                     return Err(Unread::NoDerivation);
                 };
                 parts = next;
                 rest = then;
             }
             Step::Read(mode, goal, then) => {
-                let child = tree(
-                    tokens,
-                    parts.end,
-                    goal,
-                    allowed(mode, allow_in),
-                    inner,
-                    sink,
-                )?;
+                let child = tree(parts.ahead, goal, allowed(mode, allow_in), inner, sink)?;
                 let row = sink.push(parts.row, child.slot);
-                parts = join(parts, child, row);
+                parts = parts.join(child, row);
                 rest = then;
             }
         }
     }
 }
 
-/// A tree for the goal, at `at`, that nests at most `room` deep but for what stands left of an operator.
+/// A tree for the goal, from the tokens ahead, that nests at most `room` deep but for what stands left of an operator.
 #[cycle(record_tree)]
-fn tree<S: Sink>(
-    tokens: &[Token],
-    at: usize,
+fn tree<'a, S: Sink>(
+    ahead: &'a [Token],
     goal: Goal,
     allow_in: bool,
     room: usize,
     sink: &mut S,
-) -> Result<Found, Unread>
-    requires { at ≤ length tokens.now }
-    ensures { MatchResult result (λ f. Parsed tokens.now at allow_in (goal_of goal) S.rows sink.old sink.new f) (λ e. NotParsed tokens.now at allow_in (goal_of goal) room e) }
+) -> Result<Found<'a>, Unread>
+    ensures { MatchResult result (λ f. Parsed ahead.now allow_in (goal_of goal) S.rows sink.old sink.new f) (λ e. NotParsed ahead.now allow_in (goal_of goal) room e) }
 {
     if room == 0 {
         return Err(Unread::TooDeep);
     }
     let none = sink.none();
     let mut found = record(
-        tokens,
-        begin(tokens, at, goal),
-        start_at(tokens, at, none),
+        begin(ahead, goal),
+        Parts::start(ahead, none),
         allow_in,
         room - 1,
         sink,
     )?;
-    while goes_on(tokens, found, goal, allow_in) {
-        let rest = behind(turn_at(tokens, found.end), found.traits.is_chain());
-        found = record(tokens, rest, start_with(found), allow_in, room - 1, sink)?;
+    while goes_on(found, goal, allow_in) {
+        let rest = behind(turn_at(found.ahead), found.traits.is_chain());
+        found = record(rest, found.alone(), allow_in, room - 1, sink)?;
+    }
+    Ok(found)
+}
+
+/// The script that the tokens are, as far as their order decides: whether each child may stand where it stands, and how deep
+/// they nest, is not looked at. It goes into the sink.
+fn whole<'a, S: Sink>(tokens: &'a [Token], sink: &mut S) -> Result<Found<'a>, Unread>
+    ensures { MatchResult result (λ f. Whole tokens.now S.rows sink.old sink.new f) (λ e. NotScript tokens.now e) }
+{
+    let start = Parts::start(tokens, sink.none());
+    let statements = Rest::Statements(Body::Script);
+    let found = record(statements, start, true, 511, sink).map_err(
+        |why| -> Unread
+            ensures { result ≡ refused_of (length tokens.entry.now) why }
+        { refused(tokens.len(), why) },
+    )?;
+    if !found.ahead.is_empty() {
+        return Err(Unread::NoDerivation);
     }
     Ok(found)
 }
 
 /// The script that the tokens derive. It goes into the sink. What stands where is decided by the next token alone, so the
 /// tree is read first, and whether each child may stand where it stands is asked at the end.
-pub fn script<S: Sink>(tokens: &[Token], sink: &mut S) -> Result<Found, Unread>
+pub fn script<'a, S: Sink>(tokens: &'a [Token], sink: &mut S) -> Result<Found<'a>, Unread>
     ensures { MatchResult result (λ f. Scripted tokens.now S.rows sink.old sink.new f) (λ e. NotScript tokens.now e) }
 {
-    let start = start_at(tokens, 0, sink.none());
-    let found = match record(
-        tokens,
-        Rest::Statements(Body::Script),
-        start,
-        true,
-        511,
-        sink,
-    ) {
-        Ok(found) => found,
-        Err(why) => return Err(refused(tokens.len(), why)),
-    };
-    if found.end < tokens.len() {
-        return Err(Unread::NoDerivation);
-    }
+    let found = whole(tokens, sink)?;
     if !found.good {
         return Err(Unread::NoDerivation);
     }

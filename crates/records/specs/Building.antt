@@ -1,5 +1,6 @@
 -- Trees that are put up from free records, a row of siblings at a time.
 --
+--   rooted h us                     the tree with the head h over the trees us
 --   last_of f                       the slot of the last of the siblings f, or 0
 --   behind f g                      the siblings f, and g behind them
 --   Row s t ks free first last us   from the records s with the free chain ks the trees us were put up, as a row of siblings from the
@@ -10,10 +11,14 @@
 -- Assumes nothing.
 use Rattle.std.specs.Prelude.{◌≡◌, ℕ, ◌+◌, ◌≤◌, List, length}
 use Rattle.chain.specs.Chain.{Chain, times}
-use Rattle.grammar.specs.Tree.{Forest, sizes}
+use Rattle.grammar.specs.Tree.{head, Tree, Forest, node, sizes}
+use Rattle.records.specs.declared.record.Head.{Head}
 use Rattle.records.specs.declared.record.Record.{Record}
 use Rattle.records.specs.Record.{links}
 use Rattle.records.specs.Siblings.{Siblings, none, sibling, forest, size, count, Loose, Kept, Plain}
+
+abbrev pub rooted : Head → Forest → Tree
+rooted h us = node (head h.form h.lo h.hi) us
 
 abbrev pub last_of : Siblings → ℕ
 last_of none = 0

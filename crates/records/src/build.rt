@@ -1,30 +1,30 @@
 // Putting trees up from free records: a parent over a row of siblings, and a tree behind a row.
 ghost use Rattle.std.specs.Prelude.{◌≡◌, ℕ, ◌<◌, List};
-ghost use Rattle.grammar.specs.Tree.{head, Tree, Forest, node, nil, ◌▸◌, ◌⊕◌};
+ghost use Rattle.grammar.specs.Tree.{Tree, Forest, nil, ◌▸◌, ◌⊕◌};
 ghost use Rattle.records.specs.declared.record.Record.{Record};
-ghost use Rattle.records.specs.Building.{Stands};
+ghost use Rattle.records.specs.Building.{rooted, Stands};
 
-use crate::record::{Mark, Record};
+use crate::record::{Head, Mark, Record};
 use crate::slots::draw;
-use kinds::Form;
 
 /// Draws a record for a parent, and puts it over the row that begins at `first` (0: it has no children). Answers 0 where no
 /// record is left; nothing is promised then, since the row did not leave one.
-pub fn nest(slots: &mut [Record], free: &mut u16, form: Form, first: u16, lo: u32, hi: u32) -> u16
-    ensures row { (s : List Record) (from last : ℕ) (us : Forest) → Stands s from slots.old free.old first last us → Stands s from slots.new free.new result result (node (head form lo hi) us ▸ nil) }
+pub fn nest(slots: &mut [Record], free: &mut u16, head: Head, first: u16) -> u16
+    ensures row { (s : List Record) (from last : ℕ) (us : Forest) → Stands s from slots.old free.old first last us → Stands s from slots.new free.new result result (rooted head us ▸ nil) }
 {
     let parent = Record {
-        form,
+        form: head.form,
         first,
         next: 0,
-        lo,
-        hi,
+        lo: head.lo,
+        hi: head.hi,
         mark: Mark::Unmarked,
     };
     draw(slots, free, parent).unwrap_or(0)
 }
 
 /// A row of siblings that grows at its end: the slots of its first and its last tree, both 0 while there is none.
+// 0 and no Option: a parent's record, of fixed layout, keeps the first slot as it stands here.
 #[derive(Clone, Copy)]
 pub struct Children {
     pub first: u16,

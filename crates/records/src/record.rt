@@ -37,6 +37,14 @@ pub struct Record {
     pub mark: Mark,
 }
 
+/// What a record says besides its links and its mark: its form and its place in the source text.
+#[derive(Clone, Copy)]
+pub struct Head {
+    pub form: Form,
+    pub lo: u32,
+    pub hi: u32,
+}
+
 impl Record {
     /// A record that stands in no tree.
     pub const FREE: Record = Record {

@@ -3,16 +3,15 @@ ghost use Rattle.std.specs.Prelude.{◌≡◌, ℕ, ◌<◌, ◌≤◌, List, le
 ghost use Rattle.chain.specs.Chain.{room, Slot, Chain, slots_from, Beyond, SameLoan};
 ghost use Rattle.records.specs.declared.record.Mark.TheVariants.{Unmarked};
 ghost use Rattle.records.specs.Record.{at, links, vacant, stamped};
-ghost use Rattle.grammar.specs.Tree.{head, Tree, Forest, node, nil, ◌▸◌, ◌⊕◌};
+ghost use Rattle.grammar.specs.Tree.{Tree, Forest, nil, ◌▸◌, ◌⊕◌};
 ghost use Rattle.records.specs.declared.record.Record.{Record};
 ghost use Rattle.records.specs.Siblings.{Siblings, Loose, Given};
-ghost use Rattle.records.specs.Building.{Stands};
+ghost use Rattle.records.specs.Building.{rooted, Stands};
 
 use crate::build::Children;
 use crate::give_back::give_back_tree;
-use crate::record::{Mark, Record};
+use crate::record::{Head, Mark, Record};
 use crate::{build, slots};
-use kinds::Form;
 
 /// The records, and where the chain of the free ones begins.
 #[derive(Drop)]
@@ -61,23 +60,20 @@ impl<'a> Store<'a> {
         self.free = give_back_tree(self.slots, free, root);
     }
 
-    /// Draws a record for a parent and puts it over the row that begins at `first`.
-    pub fn nest(&mut self, form: Form, first: u16, lo: u32, hi: u32) -> u16
-        ensures row { (s : List Record) (from last : ℕ) (us : Forest) → Stands s from self.old.slots.now self.old.free first last us
-            → Stands s from self.new.slots.now self.new.free result result (node (head form lo hi) us ▸ nil) }
-        ensures lender { self.new.slots.ghost_name ≡ self.old.slots.ghost_name }
+    /// Draws a record for a parent and puts it over its children.
+    pub fn nest(&mut self, head: Head, children: Children) -> u16
+        ensures row { (s : List Record) (from last : ℕ) (us : Forest) → Stands s from self.old.slots.now self.old.free children.first last us
+            → Stands s from self.new.slots.now self.new.free result result (rooted head us ▸ nil) }
+        ensures lender { SameLoan self.old.slots self.new.slots }
     {
-        let mut free = self.free;
-        let slot = build::nest(self.slots, &mut free, form, first, lo, hi);
-        self.free = free;
-        slot
+        build::nest(self.slots, &mut self.free, head, children.first)
     }
 
     /// The row with the tree at `child` behind it; that tree was put up after the row.
     pub fn push(&mut self, children: Children, child: u16) -> Children
         ensures row { (s t : List Record) (from free : ℕ) (us : Forest) (v : Tree) → Stands s from t free children.first children.last us → Stands t free self.old.slots.now self.old.free child child (v ▸ nil)
             → Stands s from self.new.slots.now self.new.free result.first result.last (us ⊕ (v ▸ nil)) }
-        ensures lender { self.new.slots.ghost_name ≡ self.old.slots.ghost_name }
+        ensures lender { SameLoan self.old.slots self.new.slots }
     {
         children.push(self.slots, child)
     }

@@ -1,52 +1,49 @@
 use Rattle.std.proofs.Common.{◌<◌, sym, refl, arith}
 use Rattle.reader.specs.Table.{turn_of}
-use Rattle.reader.proofs.Exits.{broke}
+use Rattle.recognizer.proofs.Exits.{broke}
 use Rattle.reader.proofs.Eats.{prefix_eats}
 use Rattle.recognizer.proofs.Records.{carried_none, carried_eat, carried_read, made, not_fail, not_eaten, not_read}
-use Rattle.recognizer.proofs.Trees.{no_room, reached_first, refused_first, climbed_none, climbed_next, joined, refused_next, longer, stopped}
+use Rattle.recognizer.proofs.Trees.{no_room, reached_first, reached_next, refused_first, refused_next, longer, stopped}
 use Rattle.recognizer.proofs.tree.+record_tree.Goals as goal
 
 pub record-loop-form-init : goal.record-loop-form-init
-record-loop-form-init g t c = (c.requires.few, carried_none g.S.Sink.rows _ _ _ _ _ c.requires.within c.requires.nests)
+record-loop-form-init g t c = carried_none g.S.Sink.rows _ _ _ _
 
 pub record-returns-in-Fail : goal.record-returns-in-Fail
-record-returns-in-Fail g t c = not_fail g.S.Sink.rows _ _ _ _ _ _ _ _ c.loop-form.invariant.1 c.args.inner (sym c.in-Fail.ensures)
+record-returns-in-Fail g t c = not_fail g.S.Sink.rows _ _ _ _ _ _ _ c.loop-form.invariant c.args.inner (sym c.in-Fail.ensures)
 
 pub record-returns-in-Finish : goal.record-returns-in-Finish
-record-returns-in-Finish g t c = made g.S.Sink.rows _ _ _ _ _ _ _ _ c.loop-form.invariant.1 _ _ _ _ (sym c.in-Finish.ensures) c.complete.ensures c.nest-slot.ensures
+record-returns-in-Finish g t c = made g.S.Sink.rows _ _ _ _ _ _ _ c.loop-form.invariant _ _ _ _ (sym c.in-Finish.ensures) c.complete.ensures c.nest-slot.ensures
 
 pub record-returns-in_default : goal.record-returns-in_default
-record-returns-in_default g t c = not_eaten g.S.Sink.rows _ _ _ _ _ _ _ _ c.loop-form.invariant.1 c.args.inner _ _ (sym c.in-Eat.ensures) c.in_default.ensures
+record-returns-in_default g t c = not_eaten g.S.Sink.rows _ _ _ _ _ _ _ c.loop-form.invariant c.args.inner _ _ (sym c.in-Eat.ensures) c.in_default.ensures
 
 pub record-loop-form-preserved-in-Eat : goal.record-loop-form-preserved-in-Eat
-record-loop-form-preserved-in-Eat g t c = (c.loop-form.invariant.0, carried_eat g.S.Sink.rows _ _ _ _ _ _ _ _ c.loop-form.invariant.1 _ _ _ (sym c.in-Eat.ensures) c.in-Some.ensures)
+record-loop-form-preserved-in-Eat g t c = carried_eat g.S.Sink.rows _ _ _ _ _ _ _ c.loop-form.invariant _ _ _ (sym c.in-Eat.ensures) c.in-Some.ensures
 
 pub record-returns-in_err-child-in-Read : goal.record-returns-in_err-child-in-Read
-record-returns-in_err-child-in-Read g t c = broke _ _ _ _ c.from_residual.ensures.1 (not_read g.S.Sink.rows _ _ _ _ _ _ _ _ c.loop-form.invariant.1 _ _ _ _ _ (sym c.in-Read.ensures) (rw c.allowed.ensures at c.in_err-child-in-Read.ensures))
-
-pub record-join-parts-requires : goal.record-join-parts-requires
-record-join-parts-requires g t c = let x = c.in_ok-child-in-Read.ensures in record { few = omega (arith, c.loop-form.invariant.0, c.loop-form.invariant.1.fewer, x.few); nests = x.nests }
+record-returns-in_err-child-in-Read g t c = broke _ _ _ _ c.from_residual.ensures.1 (not_read g.S.Sink.rows _ _ _ _ _ _ _ c.loop-form.invariant _ _ _ _ _ (sym c.in-Read.ensures) (rw c.allowed.ensures at c.in_err-child-in-Read.ensures))
 
 pub record-loop-form-preserved : goal.record-loop-form-preserved
-record-loop-form-preserved g t c = (c.loop-form.invariant.0, carried_read g.S.Sink.rows _ _ _ _ _ _ _ _ c.loop-form.invariant.1 _ _ _ _ _ _ _ _ (sym c.in-Read.ensures) (rw c.allowed.ensures at c.in_ok-child-in-Read.ensures) c.push-row.ensures c.join-parts.ensures)
+record-loop-form-preserved g t c = carried_read g.S.Sink.rows _ _ _ _ _ _ _ c.loop-form.invariant _ _ _ _ _ _ _ _ (sym c.in-Read.ensures) (rw c.allowed.ensures at c.in_ok-child-in-Read.ensures) c.push-row.ensures c.join-parts.ensures
 
 pub tree-returns-then-room-eq0 : goal.tree-returns-then-room-eq0
-tree-returns-then-room-eq0 g t c = rw c.if-room-eq0.true (no_room _ _ _ _)
+tree-returns-then-room-eq0 g t c = rw c.if-room-eq0.true (no_room _ _ _)
 
 pub tree-returns-in_err-found : goal.tree-returns-in_err-found
-tree-returns-in_err-found g t c = let lt : 0 < c.args.room = omega (arith, c.if-room-eq0.false) in broke _ _ _ _ c.from_residual.ensures.1 (refused_first _ _ _ _ _ _ _ c.start_at.ensures c.begin.ensures _ _ _ lt refl c.in_err-found.ensures)
+tree-returns-in_err-found g t c = let lt : 0 < c.args.room = omega (arith, c.if-room-eq0.false) in broke _ _ _ _ c.from_residual.ensures.1 (refused_first _ _ _ _ _ _ c.start.ensures c.begin.ensures _ _ _ lt refl c.in_err-found.ensures)
 
 pub tree-loop-goal-init : goal.tree-loop-goal-init
-tree-loop-goal-init g t c = climbed_none _ _ _ _ g.S.Sink.rows _ _ _ (reached_first _ _ _ _ _ _ _ c.start_at.ensures c.begin.ensures g.S.Sink.rows _ _ _ (prefix_eats c.args.goal _) c.none-none.ensures c.in_ok-found.ensures)
+tree-loop-goal-init g t c = reached_first _ _ _ _ _ _ c.start.ensures c.begin.ensures g.S.Sink.rows _ _ _ (prefix_eats c.args.goal _) c.none-none.ensures c.in_ok-found.ensures
 
 pub tree-returns-in_err-found-2 : goal.tree-returns-in_err-found-2
-tree-returns-in_err-found-2 g t c = let lt : 0 < c.args.room = omega (arith, c.if-room-eq0.false) in broke _ _ _ _ c.from_residual-in_err-found-2.ensures.1 (refused_next _ _ _ _ g.S.Sink.rows _ _ _ (joined _ _ _ _ g.S.Sink.rows _ _ _ _ _ (reached_first _ _ _ _ _ _ _ c.start_at.ensures c.begin.ensures g.S.Sink.rows _ _ _ (prefix_eats c.args.goal _) c.none-none.ensures c.in_ok-found.ensures) c.loop-goal.invariant) _ _ c.start_with.ensures (turn_of c.turn_at.result) c.is_chain.result c.behind-rest.ensures c.turn_at.ensures c.is_chain.ensures c.loop-goal-test.ensures _ _ _ lt refl c.in_err-found-2.ensures)
+tree-returns-in_err-found-2 g t c = let lt : 0 < c.args.room = omega (arith, c.if-room-eq0.false) in broke _ _ _ _ c.from_residual-in_err-found-2.ensures.1 (refused_next _ _ _ g.S.Sink.rows _ _ _ c.loop-goal.invariant _ _ c.alone.ensures (turn_of c.turn_at.result) c.is_chain.result c.behind-rest.ensures c.turn_at.ensures c.is_chain.ensures c.loop-goal-test.ensures _ _ _ lt refl c.in_err-found-2.ensures)
 
 pub tree-loop-goal-smaller : goal.tree-loop-goal-smaller
-tree-loop-goal-smaller g t c = let x = c.in_ok-found-2.ensures in omega (arith, x.within, longer _ _ _ _ g.S.Sink.rows _ _ _ (joined _ _ _ _ g.S.Sink.rows _ _ _ _ _ (reached_first _ _ _ _ _ _ _ c.start_at.ensures c.begin.ensures g.S.Sink.rows _ _ _ (prefix_eats c.args.goal _) c.none-none.ensures c.in_ok-found.ensures) c.loop-goal.invariant) _ _ c.start_with.ensures (turn_of c.turn_at.result) c.is_chain.result c.behind-rest.ensures c.turn_at.ensures c.is_chain.ensures c.loop-goal-test.ensures _ _ x)
+tree-loop-goal-smaller g t c = longer _ _ _ g.S.Sink.rows _ _ _ c.loop-goal.invariant _ _ c.alone.ensures (turn_of c.turn_at.result) c.is_chain.result c.behind-rest.ensures c.turn_at.ensures c.is_chain.ensures c.loop-goal-test.ensures _ _ c.in_ok-found-2.ensures
 
 pub tree-loop-goal-preserved : goal.tree-loop-goal-preserved
-tree-loop-goal-preserved g t c = climbed_next _ _ _ _ g.S.Sink.rows _ _ _ (joined _ _ _ _ g.S.Sink.rows _ _ _ _ _ (reached_first _ _ _ _ _ _ _ c.start_at.ensures c.begin.ensures g.S.Sink.rows _ _ _ (prefix_eats c.args.goal _) c.none-none.ensures c.in_ok-found.ensures) c.loop-goal.invariant) _ _ c.start_with.ensures (turn_of c.turn_at.result) c.is_chain.result c.behind-rest.ensures c.turn_at.ensures c.is_chain.ensures c.loop-goal-test.ensures _ _ _ _ c.loop-goal.invariant c.in_ok-found-2.ensures
+tree-loop-goal-preserved g t c = reached_next _ _ _ g.S.Sink.rows _ _ _ c.loop-goal.invariant _ _ c.alone.ensures (turn_of c.turn_at.result) c.is_chain.result c.behind-rest.ensures c.turn_at.ensures c.is_chain.ensures c.loop-goal-test.ensures _ _ c.in_ok-found-2.ensures
 
 pub tree-returns : goal.tree-returns
-tree-returns g t c = stopped _ _ _ _ g.S.Sink.rows _ _ _ (joined _ _ _ _ g.S.Sink.rows _ _ _ _ _ (reached_first _ _ _ _ _ _ _ c.start_at.ensures c.begin.ensures g.S.Sink.rows _ _ _ (prefix_eats c.args.goal _) c.none-none.ensures c.in_ok-found.ensures) c.loop-goal.invariant) c.loop-goal-test.ensures
+tree-returns g t c = stopped _ _ _ g.S.Sink.rows _ _ _ c.loop-goal.invariant c.loop-goal-test.ensures

@@ -1,5 +1,0 @@
-use Rattle.std.proofs.Common.{Bool, ◌&&◌, refl, ap}
-use Rattle.recognizer.proofs.found.complete.Goals as goal
-
-pub returns : goal.returns
-returns c = record { form = c.traits_of.ensures.form; attributes = c.traits_of.ensures.attributes; fit = λ cs s. ap (λ (b : Bool). b && c.args.parts.good) (c.children_fit.ensures cs s); lo = refl; hi = refl; end = refl; slot = refl; records = refl; nests = refl }

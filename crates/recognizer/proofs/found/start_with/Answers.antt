@@ -1,5 +1,0 @@
-use Rattle.std.proofs.Common.{[], refl}
-use Rattle.recognizer.proofs.found.start_with.Goals as goal
-
-pub returns : goal.returns
-returns c = record { children = c.with.ensures [] c.empty.ensures; fit = refl; lo = refl; hi = refl; end = refl; records = refl; nests = refl; row = refl }
