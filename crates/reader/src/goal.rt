@@ -21,7 +21,7 @@ pub enum Goal {
 }
 
 /// May an `in` stand in the open in a child?
-#[derive(Clone, Copy)]
+#[derive(Clone, Copy, PartialEq, Eq, Debug)]
 pub enum Mode {
     /// As in its parent.
     Same,

@@ -1,8 +1,11 @@
 // What is left to read of a record, as a table: each state says which token or which child comes next.
 
+ghost use Rattle.std.specs.Prelude.{◌≡◌};
+ghost use Rattle.reader.specs.Table.{tested_word};
+
 use crate::goal::{Goal, Mode};
 use kinds::{Form, Own};
-use token::Code;
+use token::{Code, Word};
 
 /// A list between brackets, its parts separated by commas.
 #[derive(Clone, Copy)]
@@ -20,21 +23,32 @@ pub enum List {
 }
 
 /// What holds a run of statements.
-#[derive(Clone, Copy)]
+#[derive(Clone, Copy, PartialEq, Eq, Debug)]
 pub enum Body {
     Block,
     Script,
 }
 
 /// A statement with a test in parentheses and a body.
-#[derive(Clone, Copy)]
+#[derive(Clone, Copy, PartialEq, Eq, Debug)]
 pub enum Tested {
     If,
     While,
 }
 
+impl From<Tested> for Code {
+    ghost from_gives = { λ tested code. code ≡ tested_word tested };
+
+    fn from(tested: Tested) -> Code {
+        match tested {
+            Tested::If => Code::Word(Word::If),
+            Tested::While => Code::Word(Word::While),
+        }
+    }
+}
+
 /// Where a Var stands: a statement ends with `;`, a head does not.
-#[derive(Clone, Copy)]
+#[derive(Clone, Copy, PartialEq, Eq, Debug)]
 pub enum Declared {
     Statement,
     Head,

@@ -3,7 +3,7 @@
 ghost use Rattle.std.specs.Prelude.{◌≡◌};
 ghost use Rattle.grammar.specs.Parser.{settle};
 ghost use Rattle.reader.specs.declared.rest.Rest.TheVariants.{MoreNames, Link as LinkRest, ForInit};
-ghost use Rattle.reader.specs.Table.{do_of, to_do, part_of, open_of, close_of, behind_of, parts_of, more_of, body_end, tested_word, tested_end, var_end};
+ghost use Rattle.reader.specs.Table.{do_of, to_do, part_of, open_of, close_of, behind_of, parts_of, more_of, body_end, tested_end, var_end};
 
 use crate::glance::{at_stop, opens_at, sees};
 use crate::goal::{Goal, Mode};
@@ -35,26 +35,17 @@ fn part(list: List) -> Goal
     }
 }
 
-/// The token before a list.
-fn open(list: List) -> Code
-    ensures { result ≡ open_of list }
+/// The tokens before and behind a list.
+fn brackets(list: List) -> (Code, Code)
+    ensures before { result.0 ≡ open_of list }
+    ensures behind { result.1 ≡ close_of list }
 {
-    match list {
-        List::Elements => Code::Punctuator(Punctuator::OpenBracket),
-        List::Properties => Code::Punctuator(Punctuator::OpenBrace),
-        _ => Code::Punctuator(Punctuator::OpenParen),
-    }
-}
-
-/// The token behind a list.
-fn close(list: List) -> Code
-    ensures { result ≡ close_of list }
-{
-    match list {
-        List::Elements => Code::Punctuator(Punctuator::CloseBracket),
-        List::Properties => Code::Punctuator(Punctuator::CloseBrace),
-        _ => Code::Punctuator(Punctuator::CloseParen),
-    }
+    let (open, close) = match list {
+        List::Elements => (Punctuator::OpenBracket, Punctuator::CloseBracket),
+        List::Properties => (Punctuator::OpenBrace, Punctuator::CloseBrace),
+        _ => (Punctuator::OpenParen, Punctuator::CloseParen),
+    };
+    (Code::Punctuator(open), Code::Punctuator(close))
 }
 
 /// What is left behind a list.
@@ -74,8 +65,9 @@ fn behind_list(list: List) -> Rest
 fn items(ahead: &[Token], list: List) -> Step
     ensures { to_do result ≡ settle (parts_of list) ahead.now }
 {
-    if sees(ahead, close(list)) {
-        Step::Eat(close(list), behind_list(list))
+    let (_, close) = brackets(list);
+    if sees(ahead, close) {
+        Step::Eat(close, behind_list(list))
     } else {
         Step::Read(Mode::Free, part(list), Rest::More(list))
     }
@@ -88,7 +80,8 @@ fn more(ahead: &[Token], list: List) -> Step
     if sees(ahead, Code::Punctuator(Punctuator::Comma)) {
         Step::Eat(Code::Punctuator(Punctuator::Comma), Rest::Next(list))
     } else {
-        Step::Eat(close(list), behind_list(list))
+        let (_, close) = brackets(list);
+        Step::Eat(close, behind_list(list))
     }
 }
 
@@ -126,16 +119,6 @@ fn more_names(ahead: &[Token], declared: Declared) -> Step
         Step::Eat(Code::Punctuator(Punctuator::Comma), Rest::Names(declared))
     } else {
         var_end(declared)
-    }
-}
-
-/// The word of a statement with a test.
-fn tested_word(tested: Tested) -> Code
-    ensures { result ≡ tested_word tested }
-{
-    match tested {
-        Tested::If => Code::Word(Word::If),
-        Tested::While => Code::Word(Word::While),
     }
 }
 
@@ -211,7 +194,10 @@ pub fn next_step(ahead: &[Token], rest: Rest) -> Step
             before,
             Rest::Closed(goal, code, form),
         ),
-        Rest::Open(list) => Step::Eat(open(list), Rest::Items(list)),
+        Rest::Open(list) => {
+            let (open, _) = brackets(list);
+            Step::Eat(open, Rest::Items(list))
+        }
         Rest::Items(list) => items(ahead, list),
         Rest::More(list) => more(ahead, list),
         Rest::Next(list) => Step::Read(Mode::Free, part(list), Rest::More(list)),
@@ -303,7 +289,7 @@ pub fn next_step(ahead: &[Token], rest: Rest) -> Step
                 Step::Read(Mode::Free, Goal::Statement, Rest::Statements(body))
             }
         }
-        Rest::Test(tested) => Step::Eat(tested_word(tested), Rest::TestOpen(tested)),
+        Rest::Test(tested) => Step::Eat(Code::from(tested), Rest::TestOpen(tested)),
         Rest::TestOpen(tested) => {
             Step::Eat(
                 Code::Punctuator(Punctuator::OpenParen),

@@ -20,7 +20,7 @@ fn lo_of(ahead: &[Token]) -> u32
 impl<'a> Found<'a> {
     /// The parts of a record whose first child this is.
     pub fn alone(self) -> Parts<'a>
-        requires { self.below < 2 ^ 63 }
+        requires { self.below + 1 < 2 ^ 64 }
         ensures { Alone self.entry result }
     {
         Parts {
@@ -78,7 +78,7 @@ impl<'a> Parts<'a> {
 
     /// The parts with one more child, which makes the row of them `row`.
     pub fn join(self, child: Found<'a>, row: Children) -> Parts<'a>
-        requires { self.size + child.below < 2 ^ 63 }
+        requires { self.size + child.below + 1 < 2 ^ 64 }
         ensures { Joined self.entry child.entry row result }
     {
         Parts {

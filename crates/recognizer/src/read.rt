@@ -26,6 +26,7 @@ pub fn recognize(tokens: &[Token]) -> Result<u64, Unread>
 pub fn build(tokens: &[Token], store: &mut Store) -> u16
     ensures { (t : Tree) → Reads tokens.now t → depth t ≤ 512 → Built store.old store.new result t }
 {
+    // 0 and no Option: the first pass has recognized the tokens, so there is a script.
     match script(tokens, store) {
         Ok(found) => found.slot,
         Err(_) => 0,

@@ -53,7 +53,7 @@ fn record<'a, S: Sink>(
     inner: usize,
     sink: &mut S,
 ) -> Result<Found<'a>, Unread>
-    requires { start.size + length start.ahead.now < 2 ^ 63 }
+    requires { start.size + length start.ahead.now < 2 ^ 64 }
     ensures { MatchResult result (λ f. Made allow_in (do_of begun) start.entry S.rows sink.old sink.new f) (λ e. NotMade allow_in (do_of begun) start.entry inner e) }
 {
     let mut rest = begun;

@@ -20,6 +20,7 @@ pub fn nest(slots: &mut [Record], free: &mut u16, head: Head, first: u16) -> u16
         hi: head.hi,
         mark: Mark::Unmarked,
     };
+    // 0 and no Option: a reading is counted before it is put up, so a record is left.
     draw(slots, free, parent).unwrap_or(0)
 }
 
