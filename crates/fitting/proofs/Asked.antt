@@ -2,7 +2,6 @@
 use mathlib.Core.Path.{◌≡◌, refl, sym, ◌∙◌, ap}
 use mathlib.Core.Bool.{Bool, true, false, cond, ◌&&◌}
 use mathlib.Core.List.{List, [], ◌∷◌}
-use mathlib.Core.Logic.{◌⊎◌, inl, inr}
 use lib.Dec.{leb}
 use Rattle.token.specs.declared.Code.{Code}
 use Rattle.kinds.specs.declared.form.Form.{Form}
@@ -17,9 +16,6 @@ use Rattle.kinds.specs.declared.form.Link.{Link}
 use Rattle.kinds.specs.declared.form.Link.TheVariants as link
 use Rattle.kinds.specs.declared.form.Entry.{Entry}
 use Rattle.kinds.specs.declared.form.Entry.TheVariants as entry
-use Rattle.kinds.specs.declared.form.Binding.{Binding}
-use Rattle.kinds.specs.declared.form.Constant.{Constant}
-use Rattle.kinds.specs.declared.form.Sort.{Sort}
 use Rattle.kinds.specs.declared.operator.UpdateOperator.{UpdateOperator}
 use Rattle.kinds.specs.declared.operator.Side.{Side}
 use Rattle.kinds.specs.declared.operator.Side.TheVariants as side
@@ -28,7 +24,7 @@ use Rattle.grammar.specs.Codes.{open_paren, close_paren, close_bracket, close_br
 use Rattle.grammar.specs.Site.{Attr, Site, at, stmt, body, block_only, prop, plain_name, valued_name, is_sort, valued, ok}
 use Rattle.grammar.specs.Layout.{Lay, end, stop, tok, kid, child, layout, fit_kids, commas, listed, run, names, var_of, rest, but_last}
 use Rattle.fitting.specs.Summary.{number, last, every, declared}
-use Rattle.fitting.specs.Sites.{fit_sites, none, heads, ends, is_complete, asks}
+use Rattle.fitting.specs.Sites.{fit_sites, heads, ends, is_complete, asks}
 use Rattle.fitting.specs.declared.summary.Declared.TheVariants.{Nothing, Complete, Unvalued, Wrong}
 use Rattle.std.proofs.Math.Bool.{and_assoc, and-true, and-false}
 
@@ -221,14 +217,3 @@ asked form.Block cs = run_all close_brace cs
 asked form.Labeled cs = lay_sites (layout form.Labeled cs) cs
 asked form.Empty cs = lay_sites (layout form.Empty cs) cs
 asked (form.Hole s) cs = lay_sites (layout (form.Hole s) cs) cs
-
--- the forms that have no children
-pub leaf : (f : Form) (cs : List Attr) → (f ≡ form.Free) ⊎ (((x : Binding) × (f ≡ form.Name x)) ⊎ ((f ≡ form.Num) ⊎ ((f ≡ form.Str) ⊎ (((x : Constant) × (f ≡ form.Word x)) ⊎ ((f ≡ form.This) ⊎ ((f ≡ form.Empty) ⊎ ((x : Sort) × (f ≡ form.Hole x)))))))) → none cs ≡ asks f cs
-leaf f cs (inl e) = rw e refl
-leaf f cs (inr (inl (x, e))) = rw e refl
-leaf f cs (inr (inr (inl e))) = rw e refl
-leaf f cs (inr (inr (inr (inl e)))) = rw e refl
-leaf f cs (inr (inr (inr (inr (inl (x, e)))))) = rw e refl
-leaf f cs (inr (inr (inr (inr (inr (inl e)))))) = rw e refl
-leaf f cs (inr (inr (inr (inr (inr (inr (inl e))))))) = rw e refl
-leaf f cs (inr (inr (inr (inr (inr (inr (inr (x, e)))))))) = rw e refl

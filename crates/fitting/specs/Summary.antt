@@ -4,6 +4,7 @@
 --   number cs                 how many children there are, up to five
 --   more n                    one more than n, up to five
 --   first second third fourth last    the attributes of single children, or absent
+--   leading cs                those of the first four
 --   every s cs                each of cs may stand at the site s
 --   any_bare cs               an `in` stands in the open in one of cs
 --   next d c, declared d cs   how far the Names and values of a Var have come, behind one more child, behind all of cs

@@ -175,13 +175,7 @@ fn dangles(tail: Tail, children: Summary) -> bool
     match tail {
         Tail::Nothing => false,
         Tail::Body => children.last.dangles,
-        Tail::Else => {
-            if children.number >= 3 {
-                children.last.dangles
-            } else {
-                true
-            }
-        }
+        Tail::Else => children.number < 3 || children.last.dangles,
     }
 }
 
