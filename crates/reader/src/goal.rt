@@ -7,7 +7,7 @@ ghost use Rattle.reader.specs.Table.{mode_of};
 use kinds::Slot;
 
 /// What is to be read.
-#[derive(Clone, Copy)]
+#[derive(Clone, Copy, PartialEq, Eq, Debug)]
 pub enum Goal {
     /// An expression for a slot.
     Expression(Slot),

@@ -8,7 +8,7 @@ use kinds::{Form, Own};
 use token::{Code, Word};
 
 /// A list between brackets, its parts separated by commas.
-#[derive(Clone, Copy)]
+#[derive(Clone, Copy, PartialEq, Eq, Debug)]
 pub enum List {
     /// The elements of an array.
     Elements,
@@ -56,7 +56,7 @@ pub enum Declared {
 
 /// What is left to read of a record.
 // A value and no closure: a closure that is kept has to be boxed, which needs a heap.
-#[derive(Clone, Copy)]
+#[derive(Clone, Copy, PartialEq, Eq, Debug)]
 pub enum Rest {
     /// Nothing begins so.
     Fail,

@@ -12,7 +12,7 @@ use kinds::{Arguments, Entry, Form, Key, Link, Own, Slot};
 use token::{AssignOperator, Code, Punctuator, Token, Word};
 
 /// The next thing to do.
-#[derive(Clone, Copy)]
+#[derive(Clone, Copy, PartialEq, Eq, Debug)]
 pub enum Step {
     /// There is no such record.
     Fail,

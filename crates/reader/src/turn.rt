@@ -11,7 +11,7 @@ use kinds::{BinaryOperator, Entry, Form, Key, Link, Side, Slot, UpdateOperator, 
 use token::{AssignOperator, Code, Operator, Punctuator, Token, Word};
 
 /// What a token does behind an expression.
-#[derive(Clone, Copy)]
+#[derive(Clone, Copy, PartialEq, Eq, Debug)]
 pub enum Turn {
     /// Stands between two operands.
     Operates(BinaryOperator),
