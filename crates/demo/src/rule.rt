@@ -5,7 +5,7 @@ use token::Token;
 use words::code_of_word;
 
 /// A comment: its number, where its text stands, and what it belongs to. It leads the token behind it, or trails the last one.
-#[derive(Clone, Copy)]
+#[derive(Clone, Copy, PartialEq, Eq, Debug)]
 pub struct Comment {
     pub number: u32,
     pub text: Place,

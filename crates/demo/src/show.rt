@@ -6,7 +6,7 @@ use std::io;
 use token::{Code, Token};
 
 /// The rule that is shown: its text, and its comments, which stores know by their numbers.
-#[derive(Clone, Copy)]
+#[derive(Clone, Copy, PartialEq, Eq, Debug)]
 pub struct Shown<'a> {
     pub text: &'a str,
     pub comments: &'a [Comment],

@@ -26,7 +26,7 @@ pub fn nest(slots: &mut [Record], free: &mut u16, head: Head, first: u16) -> u16
 
 /// A row of siblings that grows at its end: the slots of its first and its last tree, both 0 while there is none.
 // 0 and no Option: a parent's record, of fixed layout, keeps the first slot as it stands here.
-#[derive(Clone, Copy)]
+#[derive(Clone, Copy, PartialEq, Eq, Debug)]
 pub struct Children {
     pub first: u16,
     pub last: u16,

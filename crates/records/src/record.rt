@@ -27,7 +27,7 @@ impl Mark {
 /// One record: its form (a kind with its operator), its first child and its next sibling, its place in the source text,
 /// and its mark. A free record has the form `Free`, and `next` leads along the free chain. Links are slots of 16 bits, 0 for none: an
 /// `Option` would make every record that the caller lends larger.
-#[derive(Clone, Copy)]
+#[derive(Clone, Copy, PartialEq, Eq, Debug)]
 pub struct Record {
     pub form: Form,
     pub first: u16,
@@ -38,7 +38,7 @@ pub struct Record {
 }
 
 /// What a record says besides its links and its mark: its form and its place in the source text.
-#[derive(Clone, Copy)]
+#[derive(Clone, Copy, PartialEq, Eq, Debug)]
 pub struct Head {
     pub form: Form,
     pub lo: u32,
@@ -58,7 +58,7 @@ impl Record {
 }
 
 /// What a record holds besides its link.
-#[derive(Clone, Copy)]
+#[derive(Clone, Copy, PartialEq, Eq, Debug)]
 pub struct Tail {
     pub form: Form,
     pub first: u16,

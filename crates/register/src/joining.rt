@@ -8,7 +8,7 @@ use crate::entry::Entry;
 use comments::Side;
 
 /// Two lists that become one: what stands at `second` goes behind what stands at `first`, and all of it stands at `to` then.
-#[derive(Clone, Copy)]
+#[derive(Clone, Copy, PartialEq, Eq, Debug)]
 pub struct Joining {
     pub side: Side,
     pub first: u32,

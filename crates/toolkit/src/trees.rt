@@ -39,7 +39,7 @@ pub struct Returned<T> {
 }
 
 // What a pool compares with its records: the number and the root of a tree, and the mark that its type stands for.
-#[derive(Clone, Copy)]
+#[derive(Clone, Copy, PartialEq, Eq, Debug)]
 pub(crate) struct Key {
     pub pool: u16,
     pub root: u16,
