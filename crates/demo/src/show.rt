@@ -105,7 +105,8 @@ pub fn show_move(rt: &HostRuntime, m: &Move) -> io::Result<()> {
     println!(rt; "   from the pair at {from} to what stands at {to}")
 }
 
-/// Prints every list of a store that is not empty, at the offsets of the rule. A store has no iterator: it answers by offset and rank.
+/// Prints every list of a store that is not empty, at the offsets of the rule. A store has no iterator: it answers by offset
+/// and rank.
 pub fn show_lists<S: Store>(
     rt: &HostRuntime,
     name: &str,

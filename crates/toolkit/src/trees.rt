@@ -38,7 +38,7 @@ pub struct Returned<T> {
     pub refusal: Refusal,
 }
 
-// What a pool compares with its records: the number and the root of a tree, and the mark that its type stands for.
+/// What a pool compares with its records: the number and the root of a tree, and the mark that its type stands for.
 #[derive(Clone, Copy, PartialEq, Eq, Debug)]
 pub(crate) struct Key {
     pub pool: u16,
@@ -64,7 +64,7 @@ impl Tree {
         }
     }
 
-    // Ends a tree whose records are about to be given back.
+    /// Ends a tree whose records are about to be given back.
     pub(crate) fn spend(self) {
         match self {
             Tree::Loaded(Loaded { pool: _, root: _ }) => {}
