@@ -1,5 +1,6 @@
-// What a caller holds of an outstanding tree: its pool's number and its root's slot. Each state is a type of its own: a type with a
-// state parameter would take a trait, three empty types and three aliases, and a struct inside each a field more in every path.
+// What a caller holds of an outstanding tree: its pool's number and its root's slot. Each state is a type of its own: a type
+// with a state parameter would take a trait, three empty types and three aliases, and a struct inside each a field more in
+// every path.
 ghost use Rattle.std.specs.Prelude.{◌≡◌};
 ghost use Rattle.toolkit.specs.Keys.{key};
 
