@@ -31,6 +31,8 @@ pub struct Traits {
     pub single: bool,
 }
 
+// `is_brace` to `is_valued` are functions and no `==` at each use: each carries the clause that ties it to the grammar's
+// word for it.
 impl Begin {
     /// Whether it is `{`.
     pub fn is_brace(self) -> bool
@@ -102,28 +104,32 @@ impl Traits {
         )
     }
 
+    /// Whether it is a Block.
     pub fn is_block(self) -> bool
         ensures { result ≡ is_sort block (traits_of self) }
     {
-        matches!(self.form, Form::Block)
+        self.form == Form::Block
     }
 
+    /// Whether it is a Var.
     pub fn is_declaration(self) -> bool
         ensures { result ≡ is_sort declaration (traits_of self) }
     {
-        matches!(self.form, Form::Var)
+        self.form == Form::Var
     }
 
+    /// Whether it is a Prop.
     pub fn is_property(self) -> bool
         ensures { result ≡ is_sort property (traits_of self) }
     {
         matches!(self.form, Form::Prop(_))
     }
 
+    /// Whether it is a Name of a Var that a value follows.
     pub fn is_valued(self) -> bool
         ensures { result ≡ is_sort valued (traits_of self) }
     {
-        matches!(self.form, Form::Name(Binding::Valued))
+        self.form == Form::Name(Binding::Valued)
     }
 
     /// Whether it may stand bare in the slot, if it is an expression.
