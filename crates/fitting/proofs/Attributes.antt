@@ -167,13 +167,10 @@ if_bare (c ∷ []) = refl
 if_bare (c ∷ (d ∷ [])) = refl
 if_bare (c ∷ (d ∷ (e ∷ cs))) = ap (λ (b : Bool). d.bare_in || b) (sym (or-false e.bare_in))
 
-yield_bare : (cs : List Attr) → (first cs).bare_in ≡ any_open (layout form.Yield cs) cs
-yield_bare [] = refl
-yield_bare (c ∷ cs) = sym (or-false c.bare_in)
-
-return_bare : (cs : List Attr) → (first cs).bare_in ≡ any_open (layout form.Return cs) cs
-return_bare [] = refl
-return_bare (c ∷ cs) = sym (or-false c.bare_in)
+-- A list of at most one.
+lone_bare : (l : List Attr → Lay) → any_open (l []) [] ≡ false → ((c : Attr) (cs : List Attr) → any_open (l (c ∷ cs)) (c ∷ cs) ≡ any_of (false ∷ []) (c ∷ cs)) → (cs : List Attr) → (first cs).bare_in ≡ any_open (l cs) cs
+lone_bare l h g [] = sym h
+lone_bare l h g (c ∷ cs) = the_first (c ∷ cs) ∙ sym (g c cs)
 
 prop_bare : (k : Key) (cs : List Attr) → bare (open_of (form.Prop k)) cs ≡ any_open (layout (form.Prop k) cs) cs
 prop_bare key.Fixed cs = shut_second cs ∙ lay_any (layout (form.Prop key.Fixed) cs) cs
@@ -234,11 +231,11 @@ bared (form.New a) cs = new_bare a cs
 bared (form.Member k) cs = member_bare k cs
 bared (form.Chain l e) cs = chain_bare l e cs
 bared form.Await cs = the_first cs ∙ lay_any (layout form.Await cs) cs
-bared form.Yield cs = yield_bare cs
+bared form.Yield cs = lone_bare (layout form.Yield) refl (λ c cs. refl) cs
 bared form.Script cs = run_shut cs cs _ (λ es. refl)
 bared form.ExprStmt cs = the_first cs ∙ lay_any (layout form.ExprStmt cs) cs
 bared form.Var cs = var_bare cs
-bared form.Return cs = return_bare cs
+bared form.Return cs = lone_bare (layout form.Return) refl (λ c cs. refl) cs
 bared form.If cs = if_bare cs
 bared form.While cs = the_second cs ∙ lay_any (layout form.While cs) cs
 bared (form.For i t u) cs = for_bare i t u cs
