@@ -1,6 +1,7 @@
 -- What a tree is, from its root's form and the summary of its children.
 --
 --   open_of f       which children of a record of the form f are in the open, so that an `in` in them is one of the record
+--   head_parts i t u    how many parts of a For's head are there
 --   bare o cs       an `in` stands in the open in one of those of cs
 --   opening_of f    what a record of the form f begins with: a token, or its first child
 --   begins o cs     what it begins with, over children with the attributes cs
@@ -9,7 +10,7 @@
 --   whole_of f      whether a record of the form f is a single one, whatever its children
 --
 -- Assumes nothing.
-use Rattle.std.specs.Prelude.{Bool, true, false, cond, not, ◌&&◌, ◌||◌, List, eqb, leb}
+use Rattle.std.specs.Prelude.{ℕ, ◌+◌, Bool, true, false, cond, not, ◌&&◌, ◌||◌, List, eqb, leb}
 use Rattle.kinds.specs.declared.form.Form.{Form}
 use Rattle.kinds.specs.declared.form.Form.TheVariants as form
 use Rattle.kinds.specs.declared.form.Key.{Key}
@@ -37,6 +38,10 @@ prop_open key.Computed = opens.Nothing
 abbrev pub fn_open : Own → Open
 fn_open own.Nameless = opens.Nothing
 fn_open own.Named = opens.First
+
+-- How many of the init, the test and the update of a For are there.
+abbrev pub head_parts : Bool → Bool → Bool → ℕ
+head_parts i t u = cond i 1 0 + cond t 1 0 + cond u 1 0
 
 abbrev pub for_open : Bool → Bool → Bool → Open
 for_open true true true = opens.FirstFour

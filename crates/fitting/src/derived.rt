@@ -6,7 +6,7 @@ ghost use Rattle.grammar.specs.Site.{Attr};
 ghost use Rattle.grammar.specs.Layout.{attr_of, is_in};
 ghost use Rattle.fitting.specs.Traits.{traits_of, begin_of};
 ghost use Rattle.fitting.specs.Summary.{Sums};
-ghost use Rattle.fitting.specs.Derived.{open_of, for_open, bare, opening_of, begins as begins_of, tail_of, dangling, whole_of, declares, one_name};
+ghost use Rattle.fitting.specs.Derived.{open_of, head_parts, for_open, bare, opening_of, begins as begins_of, tail_of, dangling, whole_of, declares, one_name};
 
 use crate::summary::Summary;
 use crate::traits::{Begin, Traits};
@@ -70,18 +70,26 @@ impl Traits {
     }
 }
 
-// The three flags are the fields of `Form::For`: a struct of them would change that form, and with it what the grammar says of it.
+/// How many of a For's init, test and update are there.
+pub fn head_parts(init: bool, test: bool, update: bool) -> usize
+    ensures { result ≡ head_parts init test update }
+{
+    usize::from(init) + usize::from(test) + usize::from(update)
+}
+
+/// The parts of a For's head that are there, and its body behind them: all are in the open.
 fn open_in_for(init: bool, test: bool, update: bool) -> Open
     ensures { result ≡ for_open init test update }
 {
-    match (init, test, update) {
-        (true, true, true) => Open::FirstFour,
-        (true, true, false) | (true, false, true) | (false, true, true) => Open::FirstThree,
-        (true, false, false) | (false, true, false) | (false, false, true) => Open::FirstTwo,
-        (false, false, false) => Open::First,
+    match head_parts(init, test, update) {
+        0 => Open::First,
+        1 => Open::FirstTwo,
+        2 => Open::FirstThree,
+        _ => Open::FirstFour,
     }
 }
 
+/// Which children of a record of this form are in the open.
 fn open_children(form: Form) -> Open
     ensures { result ≡ open_of form }
 {
@@ -128,6 +136,7 @@ fn open_in(parts: Open, children: Summary) -> bool
     }
 }
 
+/// What a record of this form begins with.
 fn opens_with(form: Form) -> Opening
     ensures { result ≡ opening_of form }
 {
@@ -150,6 +159,7 @@ fn opens_with(form: Form) -> Opening
     }
 }
 
+/// The first token of a record that begins so.
 fn begins(opening: Opening, children: Summary) -> Begin
     ensures { (cs : List Attr) → Sums cs children → begin_of result ≡ begins_of opening cs }
 {
@@ -159,6 +169,7 @@ fn begins(opening: Opening, children: Summary) -> Begin
     }
 }
 
+/// When an `else` behind a record of this form could be its own.
 fn tail_of(form: Form) -> Tail
     ensures { result ≡ tail_of form }
 {
@@ -169,6 +180,7 @@ fn tail_of(form: Form) -> Tail
     }
 }
 
+/// Whether an `else` behind the record could be its own.
 fn dangles(tail: Tail, children: Summary) -> bool
     ensures { (cs : List Attr) → Sums cs children → result ≡ dangling tail cs }
 {
