@@ -1,12 +1,12 @@
 // What a tree is, from its root's form and the summary of its children.
 
-ghost use Rattle.std.specs.Prelude.{◌≡◌, ◌&&◌, ◌||◌, List};
+ghost use Rattle.std.specs.Prelude.{◌≡◌, ◌&&◌, ◌||◌, List, map};
 ghost use Rattle.kinds.specs.Levels.{is_c, is_o, is_target};
 ghost use Rattle.grammar.specs.Site.{Attr};
 ghost use Rattle.grammar.specs.Layout.{attr_of, is_in};
 ghost use Rattle.fitting.specs.Traits.{traits_of, begin_of};
 ghost use Rattle.fitting.specs.Summary.{Sums};
-ghost use Rattle.fitting.specs.Derived.{open_of, head_parts, for_open, bare, opening_of, begins as begins_of, tail_of, dangling, whole_of, declares, one_name};
+ghost use Rattle.fitting.specs.Derived.{open_of, head_parts, for_open, marked, bare, opening_of, begins as begins_of, tail_of, dangling, whole_of, declares, one_name};
 
 use crate::summary::Summary;
 use crate::traits::{Begin, Traits};
@@ -15,15 +15,9 @@ use kinds::{BinaryOperator, Binding, Form, Key, Own, Side, Slot};
 /// Which children are in the open, so that an `in` in the open in one of them is in the open in the record.
 #[derive(Clone, Copy, PartialEq, Eq, Debug)]
 pub enum Open {
-    Nothing,
-    First,
-    Second,
+    /// Of the first four, those that are marked.
+    Marked([bool; 4]),
     Last,
-    FirstTwo,
-    FirstAndThird,
-    SecondAndThird,
-    FirstThree,
-    FirstFour,
     All,
 }
 
@@ -81,12 +75,8 @@ pub fn head_parts(init: bool, test: bool, update: bool) -> usize
 fn open_in_for(init: bool, test: bool, update: bool) -> Open
     ensures { result ≡ for_open init test update }
 {
-    match head_parts(init, test, update) {
-        0 => Open::First,
-        1 => Open::FirstTwo,
-        2 => Open::FirstThree,
-        _ => Open::FirstFour,
-    }
+    let parts = head_parts(init, test, update);
+    Open::Marked([true, parts > 0, parts > 1, parts > 2])
 }
 
 /// Which children of a record of this form are in the open.
@@ -105,33 +95,35 @@ fn open_children(form: Form) -> Open
         | Form::Await
         | Form::Yield
         | Form::ExprStmt
-        | Form::Return => Open::First,
-        Form::While => Open::Second,
+        | Form::Return => Open::Marked([true, false, false, false]),
+        Form::While => Open::Marked([false, true, false, false]),
         Form::Arrow => Open::Last,
-        Form::Bin(_) | Form::Assign(_) | Form::Labeled => Open::FirstTwo,
-        Form::Cond | Form::ForIn => Open::FirstAndThird,
-        Form::If => Open::SecondAndThird,
+        Form::Bin(_) | Form::Assign(_) | Form::Labeled => Open::Marked([true, true, false, false]),
+        Form::Cond | Form::ForIn => Open::Marked([true, false, true, false]),
+        Form::If => Open::Marked([false, true, true, false]),
         Form::For { init, test, update } => open_in_for(init, test, update),
         Form::Seq | Form::Var => Open::All,
-        _ => Open::Nothing,
+        _ => Open::Marked([false; 4]),
     }
+}
+
+/// Whether an `in` stands in the open in one of the children that are marked.
+fn bare_in_marked(children: &[Traits], marks: &[bool]) -> bool
+    ensures { result ≡ marked marks.now (map traits_of children.now) }
+{
+    children
+        .iter()
+        .zip(marks)
+        .any(|(child, open)| *open && child.bare_in)
 }
 
 /// Whether an `in` stands in the open in one of the children that are in the open.
 fn open_in(parts: Open, children: Summary) -> bool
     ensures { (cs : List Attr) → Sums cs children → result ≡ bare parts cs }
 {
-    let [first, second, third, fourth] = children.leading;
     match parts {
-        Open::Nothing => false,
-        Open::First => first.bare_in,
-        Open::Second => second.bare_in,
+        Open::Marked(marks) => bare_in_marked(&children.leading, &marks),
         Open::Last => children.last.bare_in,
-        Open::FirstTwo => first.bare_in || second.bare_in,
-        Open::FirstAndThird => first.bare_in || third.bare_in,
-        Open::SecondAndThird => second.bare_in || third.bare_in,
-        Open::FirstThree => first.bare_in || second.bare_in || third.bare_in,
-        Open::FirstFour => first.bare_in || second.bare_in || third.bare_in || fourth.bare_in,
         Open::All => children.bare_in,
     }
 }
