@@ -17,7 +17,9 @@ use kinds::{BinaryOperator, Binding, Form, Key, Own, Side, Slot};
 pub enum Open {
     /// Of the first four, those that are marked.
     Marked([bool; 4]),
+    /// The last.
     Last,
+    /// All of them.
     All,
 }
 

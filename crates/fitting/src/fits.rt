@@ -23,6 +23,7 @@ const VALUE: Site = Site::At(Slot::Assignment);
 
 impl Declared {
     /// Whether these are all Names and values of a Var.
+    // No `==` at its use: it carries the clause that ties it to `is_complete` of specs/Sites.
     pub fn is_complete(self) -> bool
         ensures { result ≡ is_complete self }
     {

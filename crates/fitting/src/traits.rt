@@ -31,8 +31,8 @@ pub struct Traits {
     pub single: bool,
 }
 
-// `is_brace` to `is_valued` are functions and no `==` at each use: each carries the clause that ties it to the grammar's
-// word for it.
+// `is_brace`, `is_other`, `is_block`, `is_declaration`, `is_property` and `is_valued` are functions, and no `==` at
+// each use: each carries the clause that ties it to the grammar's beginning or sort.
 impl Begin {
     /// Whether it is `{`.
     pub fn is_brace(self) -> bool
@@ -50,7 +50,9 @@ impl Begin {
 }
 
 impl Traits {
-    /// What stands for a child that is not there.
+    /// What stands for a child that is not there: the traits of no form.
+    // No Option: the grammar's `first_begin []`, `first_standing []` and `last_dangles []` are its values, so that no
+    // read needs a test.
     pub const ABSENT: Traits = Traits {
         form: Form::Free,
         over_call: false,
