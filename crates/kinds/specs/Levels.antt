@@ -361,7 +361,17 @@ fits slot.PropertyName s = order s == 22 || order s == 24
 
 -- The slot of a level of operators.
 abbrev pub slot_of : ℕ → Slot
-slot_of l = cond (l == 4) slot.LogicalAnd (cond (l == 5) slot.BitwiseOr (cond (l == 6) slot.BitwiseXor (cond (l == 7) slot.BitwiseAnd (cond (l == 8) slot.Equality (cond (l == 9) slot.Relational (cond (l == 10) slot.Shift (cond (l == 11) slot.Additive (cond (l == 12) slot.Multiplicative slot.Exponentiation))))))))
+slot_of l =
+    cond (l == 4) slot.LogicalAnd
+    (cond (l == 5) slot.BitwiseOr
+    (cond (l == 6) slot.BitwiseXor
+    (cond (l == 7) slot.BitwiseAnd
+    (cond (l == 8) slot.Equality
+    (cond (l == 9) slot.Relational
+    (cond (l == 10) slot.Shift
+    (cond (l == 11) slot.Additive
+    (cond (l == 12) slot.Multiplicative
+    slot.Exponentiation))))))))
 
 -- The slots of a binary operator.
 abbrev pub left_slot : BinaryOperator → Slot
