@@ -45,21 +45,13 @@ stand_told ts ss true h = all_stand ts ss (λ k d l. h k d (omega arith) l)
 stand_told ts ss false h = one_fails ts ss h.0 h.1 h.2
 
 -- The number stops at five, and no more than four sites are asked for.
-number_tells : (cs : List Attr) (n : ℕ) → n ≤ 4 → number cs ≡ n → length cs ≡ n
-number_tells [] n h e = e
-number_tells (x ∷ []) n h e = e
-number_tells (x ∷ (y ∷ [])) n h e = e
-number_tells (x ∷ (y ∷ (z ∷ []))) n h e = e
-number_tells (x ∷ (y ∷ (z ∷ (w ∷ [])))) n h e = e
-number_tells (x ∷ (y ∷ (z ∷ (w ∷ (v ∷ cs))))) n h e = absurd (omega (arith, h, e))
-
-number_told : (cs : List Attr) (n : ℕ) → n ≤ 4 → length cs ≡ n → number cs ≡ n
-number_told [] n h e = e
-number_told (x ∷ []) n h e = e
-number_told (x ∷ (y ∷ [])) n h e = e
-number_told (x ∷ (y ∷ (z ∷ []))) n h e = e
-number_told (x ∷ (y ∷ (z ∷ (w ∷ [])))) n h e = e
-number_told (x ∷ (y ∷ (z ∷ (w ∷ (v ∷ cs))))) n h e = absurd (omega (arith, h, e))
+number_is : (cs : List Attr) (n : ℕ) → n ≤ 4 → (number cs ≡ n → length cs ≡ n) × (length cs ≡ n → number cs ≡ n)
+number_is [] n h = ((λ e. e), (λ e. e))
+number_is (x ∷ []) n h = ((λ e. e), (λ e. e))
+number_is (x ∷ (y ∷ [])) n h = ((λ e. e), (λ e. e))
+number_is (x ∷ (y ∷ (z ∷ []))) n h = ((λ e. e), (λ e. e))
+number_is (x ∷ (y ∷ (z ∷ (w ∷ [])))) n h = ((λ e. e), (λ e. e))
+number_is (x ∷ (y ∷ (z ∷ (w ∷ (v ∷ cs))))) n h = ((λ e. absurd (omega (arith, h, e))), (λ e. absurd (omega (arith, h, e))))
 
 -- The first n of cs, and `absent` for each that is not there.
 abbrev padded : ℕ → List Attr → List Attr
@@ -81,7 +73,7 @@ stand_unlike (s ∷ ss) (c ∷ cs) h = sym (and-false (ok s c)) ∙ ap (λ (b : 
 
 module _ (cs : List Attr) (k : Summary) (ss : List SiteR) (h : Sums cs k) (few : length ss ≤ 4) where
   pub as_many : k.number ≡ length ss → stand (map site_of ss) (map traits_of k.leading) ≡ fit_sites (map site_of ss) cs
-  as_many e = ap (λ (ds : List Attr). stand (map site_of ss) ds) h.leading ∙ stand_alike 4 (map site_of ss) cs (omega (arith, few, length-map ss site_of)) (number_tells cs (length ss) few (sym h.number ∙ e) ∙ sym (length-map ss site_of))
+  as_many e = ap (λ (ds : List Attr). stand (map site_of ss) ds) h.leading ∙ stand_alike 4 (map site_of ss) cs (omega (arith, few, length-map ss site_of)) ((number_is cs (length ss) few).0 (sym h.number ∙ e) ∙ sym (length-map ss site_of))
 
   pub not_as_many : (k.number ≡ length ss → ⊥) → false ≡ fit_sites (map site_of ss) cs
-  not_as_many n = stand_unlike (map site_of ss) cs (λ e. n (h.number ∙ number_told cs (length ss) few (e ∙ length-map ss site_of)))
+  not_as_many n = stand_unlike (map site_of ss) cs (λ e. n (h.number ∙ (number_is cs (length ss) few).1 (e ∙ length-map ss site_of)))

@@ -180,7 +180,7 @@ for_is false true false cs = lay_sites (layout (form.For false true false) cs) c
 for_is false false true cs = lay_sites (layout (form.For false false true) cs) cs
 for_is false false false cs = lay_sites (layout (form.For false false false) cs) cs
 
-pub asked : (f : Form) (cs : List Attr) → asks f cs ≡ fit_kids (layout f cs) cs
+asked : (f : Form) (cs : List Attr) → asks f cs ≡ fit_kids (layout f cs) cs
 asked form.Free cs = lay_sites (layout form.Free cs) cs
 asked (form.Name b) cs = lay_sites (layout (form.Name b) cs) cs
 asked form.Num cs = lay_sites (layout form.Num cs) cs
@@ -217,3 +217,6 @@ asked form.Block cs = run_all close_brace cs
 asked form.Labeled cs = lay_sites (layout form.Labeled cs) cs
 asked form.Empty cs = lay_sites (layout form.Empty cs) cs
 asked (form.Hole s) cs = lay_sites (layout (form.Hole s) cs) cs
+
+pub asked_by : (f : Form) (cs : List Attr) (b : Bool) → b ≡ asks f cs → b ≡ fit_kids (layout f cs) cs
+asked_by f cs b e = e ∙ asked f cs

@@ -33,11 +33,11 @@ use Rattle.grammar.specs.Layout as grammar
 use Rattle.grammar.specs.Layout.{Lay, end, stop, tok, kid, child, layout, commas, listed, run, names, var_of, rest, but_last, any_open, begin_of, dangles_of, last_dangles, single_of, first_standing, is_in, attr_of}
 use Rattle.fitting.specs.Traits.{traits_of}
 use Rattle.fitting.specs.Traits as traits
-use Rattle.fitting.specs.Summary.{number, first, second, third, fourth, last, any_bare}
+use Rattle.fitting.specs.Summary.{number, first, last, any_bare}
 use Rattle.fitting.specs.Derived.{open_of, bare, opening_of, begins, tail_of, dangling, whole_of, declares, one_name}
 use Rattle.fitting.specs.declared.traits.Traits.{Traits}
 use Rattle.fitting.specs.declared.traits.Begin.{Begin}
-use Rattle.std.proofs.Math.Bool.{or-false}
+use Rattle.std.proofs.Math.Bool.{or-false, and-false}
 
 -- Which children are inside brackets, in order.
 abbrev insides : Lay → List Bool
@@ -46,55 +46,21 @@ insides stop = []
 insides (tok c l) = insides l
 insides (kid i s l) = i ∷ insides l
 
-abbrev any_of : List Bool → List Attr → Bool
-any_of [] cs = false
-any_of (i ∷ is) [] = false
-any_of (i ∷ is) (c ∷ cs) = (not i && c.bare_in) || any_of is cs
+-- The same over the children that are there, and `absent` behind them.
+abbrev open_of_leading : List Bool → List Attr → Bool
+open_of_leading [] cs = false
+open_of_leading (i ∷ is) cs = (not i && (first cs).bare_in) || open_of_leading is (rest cs)
 
-lay_any : (l : Lay) (cs : List Attr) → any_of (insides l) cs ≡ any_open l cs
-lay_any end cs = refl
-lay_any stop cs = refl
-lay_any (tok j l) cs = lay_any l cs
-lay_any (kid i s l) [] = refl
-lay_any (kid i s l) (c ∷ cs) = ap (λ (b : Bool). (not i && c.bare_in) || b) (lay_any l cs)
+none_open : (is : List Bool) → open_of_leading is [] ≡ false
+none_open [] = refl
+none_open (i ∷ is) = ap (λ (b : Bool). b || open_of_leading is []) (and-false (not i)) ∙ none_open is
 
-the_first : (cs : List Attr) → (first cs).bare_in ≡ any_of (false ∷ []) cs
-the_first [] = refl
-the_first (c ∷ cs) = sym (or-false c.bare_in)
-
-shut_second : (cs : List Attr) → (first cs).bare_in ≡ any_of (false ∷ (true ∷ [])) cs
-shut_second [] = refl
-shut_second (c ∷ []) = sym (or-false c.bare_in)
-shut_second (c ∷ (d ∷ cs)) = sym (or-false c.bare_in)
-
-all_shut : (cs : List Attr) → false ≡ any_of (true ∷ []) cs
-all_shut [] = refl
-all_shut (c ∷ cs) = refl
-
-both_shut : (cs : List Attr) → false ≡ any_of (true ∷ (true ∷ [])) cs
-both_shut [] = refl
-both_shut (c ∷ []) = refl
-both_shut (c ∷ (d ∷ cs)) = refl
-
-the_second : (cs : List Attr) → (second cs).bare_in ≡ any_of (true ∷ (false ∷ [])) cs
-the_second [] = refl
-the_second (c ∷ cs) = the_first cs
-
-first_two : (cs : List Attr) → (first cs).bare_in || (second cs).bare_in ≡ any_of (false ∷ (false ∷ [])) cs
-first_two [] = refl
-first_two (c ∷ cs) = ap (λ (b : Bool). c.bare_in || b) (the_first cs)
-
-first_third : (cs : List Attr) → (first cs).bare_in || (third cs).bare_in ≡ any_of (false ∷ (true ∷ (false ∷ []))) cs
-first_third [] = refl
-first_third (c ∷ cs) = ap (λ (b : Bool). c.bare_in || b) (the_second cs)
-
-first_three : (cs : List Attr) → (first cs).bare_in || ((second cs).bare_in || (third cs).bare_in) ≡ any_of (false ∷ (false ∷ (false ∷ []))) cs
-first_three [] = refl
-first_three (c ∷ cs) = ap (λ (b : Bool). c.bare_in || b) (first_two cs)
-
-first_four : (cs : List Attr) → (first cs).bare_in || ((second cs).bare_in || ((third cs).bare_in || (fourth cs).bare_in)) ≡ any_of (false ∷ (false ∷ (false ∷ (false ∷ [])))) cs
-first_four [] = refl
-first_four (c ∷ cs) = ap (λ (b : Bool). c.bare_in || b) (first_three cs)
+lay_open : (l : Lay) (cs : List Attr) → open_of_leading (insides l) cs ≡ any_open l cs
+lay_open end cs = refl
+lay_open stop cs = refl
+lay_open (tok j l) cs = lay_open l cs
+lay_open (kid i s l) [] = none_open (i ∷ insides l)
+lay_open (kid i s l) (c ∷ cs) = ap (λ (b : Bool). (not i && c.bare_in) || b) (lay_open l cs)
 
 -- Lists between brackets.
 commas_shut : (s : Site) (bs ds : List Attr) (l : Lay) → ((es : List Attr) → false ≡ any_open l es) → false ≡ any_open (commas true s bs l) ds
@@ -112,9 +78,9 @@ run_shut [] ds l h = h ds
 run_shut (a ∷ bs) [] l h = refl
 run_shut (a ∷ bs) (d ∷ ds) l h = run_shut bs ds l h
 
-heads_shut : (s t : Site) (j : Code) (bs cs : List Attr) (l : Lay) → ((es : List Attr) → false ≡ any_open l es) → (first cs).bare_in ≡ any_open (kid false s (tok j (listed t bs l))) cs
+heads_shut : (s t : Site) (j : Code) (bs cs : List Attr) (l : Lay) → ((es : List Attr) → false ≡ any_open l es) → (first cs).bare_in || false ≡ any_open (kid false s (tok j (listed t bs l))) cs
 heads_shut s t j bs [] l h = refl
-heads_shut s t j bs (c ∷ cs) l h = sym (or-false c.bare_in) ∙ ap (λ (b : Bool). c.bare_in || b) (listed_shut t bs cs l h)
+heads_shut s t j bs (c ∷ cs) l h = ap (λ (b : Bool). c.bare_in || b) (listed_shut t bs cs l h)
 
 -- What stands behind parameters.
 commas_last : (l : Lay) (c : Attr) (cs : List Attr) → any_open l (last (c ∷ cs) ∷ []) ≡ any_open (commas true plain_name (but_last (c ∷ cs)) l) (c ∷ cs)
@@ -130,9 +96,9 @@ arrow_bare [] = refl
 arrow_bare (c ∷ cs) = sym (or-false (last (c ∷ cs)).bare_in) ∙ listed_last _ c cs
 
 fn_bare : (o : Own) (cs : List Attr) → bare (open_of (form.Fn o)) cs ≡ any_open (layout (form.Fn o) cs) cs
-fn_bare own.Nameless cs = listed_shut plain_name (but_last cs) cs _ (λ es. all_shut es ∙ lay_any (kid true site.block_only end) es)
+fn_bare own.Nameless cs = listed_shut plain_name (but_last cs) cs _ (λ es. lay_open (kid true site.block_only end) es)
 fn_bare own.Named [] = refl
-fn_bare own.Named (c ∷ cs) = sym (or-false c.bare_in) ∙ ap (λ (b : Bool). c.bare_in || b) (listed_shut plain_name (but_last cs) cs _ (λ es. all_shut es ∙ lay_any (kid true site.block_only end) es))
+fn_bare own.Named (c ∷ cs) = ap (λ (b : Bool). c.bare_in || b) (listed_shut plain_name (but_last cs) cs _ (λ es. lay_open (kid true site.block_only end) es))
 
 -- Lists in the open.
 commas_open : (s : Site) (cs : List Attr) → any_bare cs ≡ any_open (commas false s cs end) cs
@@ -161,54 +127,51 @@ var_bare : (cs : List Attr) → any_bare cs ≡ any_open (var_of cs) cs
 var_bare [] = refl
 var_bare (c ∷ cs) = named_bare (is_sort valued c) c cs (values_bare cs) (names_bare cs)
 
-if_bare : (cs : List Attr) → (second cs).bare_in || (third cs).bare_in ≡ any_open (layout form.If cs) cs
+if_bare : (cs : List Attr) → bare (open_of form.If) cs ≡ any_open (layout form.If cs) cs
 if_bare [] = refl
 if_bare (c ∷ []) = refl
 if_bare (c ∷ (d ∷ [])) = refl
-if_bare (c ∷ (d ∷ (e ∷ cs))) = ap (λ (b : Bool). d.bare_in || b) (sym (or-false e.bare_in))
+if_bare (c ∷ (d ∷ (e ∷ cs))) = refl
 
-yield_bare : (cs : List Attr) → (first cs).bare_in ≡ any_open (layout form.Yield cs) cs
-yield_bare [] = refl
-yield_bare (c ∷ cs) = sym (or-false c.bare_in)
-
-return_bare : (cs : List Attr) → (first cs).bare_in ≡ any_open (layout form.Return cs) cs
-return_bare [] = refl
-return_bare (c ∷ cs) = sym (or-false c.bare_in)
+-- A list of at most one.
+lone_bare : (l : List Attr → Lay) → any_open (l []) [] ≡ false → ((c : Attr) (cs : List Attr) → any_open (l (c ∷ cs)) (c ∷ cs) ≡ c.bare_in || false) → (cs : List Attr) → (first cs).bare_in || false ≡ any_open (l cs) cs
+lone_bare l h g [] = sym h
+lone_bare l h g (c ∷ cs) = sym (g c cs)
 
 prop_bare : (k : Key) (cs : List Attr) → bare (open_of (form.Prop k)) cs ≡ any_open (layout (form.Prop k) cs) cs
-prop_bare key.Fixed cs = shut_second cs ∙ lay_any (layout (form.Prop key.Fixed) cs) cs
-prop_bare key.Computed cs = both_shut cs ∙ lay_any (layout (form.Prop key.Computed) cs) cs
+prop_bare key.Fixed cs = lay_open (layout (form.Prop key.Fixed) cs) cs
+prop_bare key.Computed cs = lay_open (layout (form.Prop key.Computed) cs) cs
 
-update_bare : (o : UpdateOperator) (s : Side) (cs : List Attr) → (first cs).bare_in ≡ any_open (layout (form.Update o s) cs) cs
-update_bare o side.Before cs = the_first cs ∙ lay_any (layout (form.Update o side.Before) cs) cs
-update_bare o side.After cs = the_first cs ∙ lay_any (layout (form.Update o side.After) cs) cs
+update_bare : (o : UpdateOperator) (s : Side) (cs : List Attr) → (first cs).bare_in || false ≡ any_open (layout (form.Update o s) cs) cs
+update_bare o side.Before cs = lay_open (layout (form.Update o side.Before) cs) cs
+update_bare o side.After cs = lay_open (layout (form.Update o side.After) cs) cs
 
-new_bare : (a : Arguments) (cs : List Attr) → (first cs).bare_in ≡ any_open (layout (form.New a) cs) cs
+new_bare : (a : Arguments) (cs : List Attr) → (first cs).bare_in || false ≡ any_open (layout (form.New a) cs) cs
 new_bare arguments.Listed cs = heads_shut (at slot.Member) (at slot.Assignment) open_paren (rest cs) cs _ (λ es. refl)
-new_bare arguments.Unlisted cs = the_first cs ∙ lay_any (layout (form.New arguments.Unlisted) cs) cs
+new_bare arguments.Unlisted cs = lay_open (layout (form.New arguments.Unlisted) cs) cs
 
-member_bare : (k : Key) (cs : List Attr) → (first cs).bare_in ≡ any_open (layout (form.Member k) cs) cs
-member_bare key.Fixed cs = shut_second cs ∙ lay_any (layout (form.Member key.Fixed) cs) cs
-member_bare key.Computed cs = shut_second cs ∙ lay_any (layout (form.Member key.Computed) cs) cs
+member_bare : (k : Key) (cs : List Attr) → (first cs).bare_in || false ≡ any_open (layout (form.Member k) cs) cs
+member_bare key.Fixed cs = lay_open (layout (form.Member key.Fixed) cs) cs
+member_bare key.Computed cs = lay_open (layout (form.Member key.Computed) cs) cs
 
-chain_bare : (l : Link) (e : Entry) (cs : List Attr) → (first cs).bare_in ≡ any_open (layout (form.Chain l e) cs) cs
-chain_bare link.Name entry.Optional cs = shut_second cs ∙ lay_any (layout (form.Chain link.Name entry.Optional) cs) cs
-chain_bare link.Key entry.Optional cs = shut_second cs ∙ lay_any (layout (form.Chain link.Key entry.Optional) cs) cs
+chain_bare : (l : Link) (e : Entry) (cs : List Attr) → (first cs).bare_in || false ≡ any_open (layout (form.Chain l e) cs) cs
+chain_bare link.Name entry.Optional cs = lay_open (layout (form.Chain link.Name entry.Optional) cs) cs
+chain_bare link.Key entry.Optional cs = lay_open (layout (form.Chain link.Key entry.Optional) cs) cs
 chain_bare link.Call entry.Optional [] = refl
-chain_bare link.Call entry.Optional (c ∷ cs) = sym (or-false c.bare_in) ∙ ap (λ (b : Bool). c.bare_in || b) (listed_shut (at slot.Assignment) cs cs _ (λ es. refl))
-chain_bare link.Name entry.Tail cs = shut_second cs ∙ lay_any (layout (form.Chain link.Name entry.Tail) cs) cs
-chain_bare link.Key entry.Tail cs = shut_second cs ∙ lay_any (layout (form.Chain link.Key entry.Tail) cs) cs
+chain_bare link.Call entry.Optional (c ∷ cs) = ap (λ (b : Bool). c.bare_in || b) (listed_shut (at slot.Assignment) cs cs _ (λ es. refl))
+chain_bare link.Name entry.Tail cs = lay_open (layout (form.Chain link.Name entry.Tail) cs) cs
+chain_bare link.Key entry.Tail cs = lay_open (layout (form.Chain link.Key entry.Tail) cs) cs
 chain_bare link.Call entry.Tail cs = heads_shut (at slot.Chain) (at slot.Assignment) open_paren (rest cs) cs _ (λ es. refl)
 
 for_bare : (i t u : Bool) (cs : List Attr) → bare (open_of (form.For i t u)) cs ≡ any_open (layout (form.For i t u) cs) cs
-for_bare true true true cs = first_four cs ∙ lay_any (layout (form.For true true true) cs) cs
-for_bare true true false cs = first_three cs ∙ lay_any (layout (form.For true true false) cs) cs
-for_bare true false true cs = first_three cs ∙ lay_any (layout (form.For true false true) cs) cs
-for_bare true false false cs = first_two cs ∙ lay_any (layout (form.For true false false) cs) cs
-for_bare false true true cs = first_three cs ∙ lay_any (layout (form.For false true true) cs) cs
-for_bare false true false cs = first_two cs ∙ lay_any (layout (form.For false true false) cs) cs
-for_bare false false true cs = first_two cs ∙ lay_any (layout (form.For false false true) cs) cs
-for_bare false false false cs = the_first cs ∙ lay_any (layout (form.For false false false) cs) cs
+for_bare true true true cs = lay_open (layout (form.For true true true) cs) cs
+for_bare true true false cs = lay_open (layout (form.For true true false) cs) cs
+for_bare true false true cs = lay_open (layout (form.For true false true) cs) cs
+for_bare true false false cs = lay_open (layout (form.For true false false) cs) cs
+for_bare false true true cs = lay_open (layout (form.For false true true) cs) cs
+for_bare false true false cs = lay_open (layout (form.For false true false) cs) cs
+for_bare false false true cs = lay_open (layout (form.For false false true) cs) cs
+for_bare false false false cs = lay_open (layout (form.For false false false) cs) cs
 
 bared : (f : Form) (cs : List Attr) → bare (open_of f) cs ≡ any_open (layout f cs) cs
 bared form.Free cs = refl
@@ -222,29 +185,29 @@ bared form.Object cs = listed_shut site.prop cs cs _ (λ es. refl)
 bared (form.Prop k) cs = prop_bare k cs
 bared (form.Fn o) cs = fn_bare o cs
 bared form.Arrow cs = arrow_bare cs
-bared (form.Unary o) cs = the_first cs ∙ lay_any (layout (form.Unary o) cs) cs
+bared (form.Unary o) cs = lay_open (layout (form.Unary o) cs) cs
 bared (form.Update o s) cs = update_bare o s cs
-bared (form.Bin o) cs = first_two cs ∙ lay_any (layout (form.Bin o) cs) cs
-bared (form.Assign o) cs = first_two cs ∙ lay_any (layout (form.Assign o) cs) cs
-bared form.Cond cs = first_third cs ∙ lay_any (layout form.Cond cs) cs
+bared (form.Bin o) cs = lay_open (layout (form.Bin o) cs) cs
+bared (form.Assign o) cs = lay_open (layout (form.Assign o) cs) cs
+bared form.Cond cs = lay_open (layout form.Cond cs) cs
 bared form.Seq cs = seq_bare cs
-bared form.Paren cs = all_shut cs ∙ lay_any (layout form.Paren cs) cs
+bared form.Paren cs = lay_open (layout form.Paren cs) cs
 bared form.Call cs = heads_shut (at slot.Call) (at slot.Assignment) open_paren (rest cs) cs _ (λ es. refl)
 bared (form.New a) cs = new_bare a cs
 bared (form.Member k) cs = member_bare k cs
 bared (form.Chain l e) cs = chain_bare l e cs
-bared form.Await cs = the_first cs ∙ lay_any (layout form.Await cs) cs
-bared form.Yield cs = yield_bare cs
+bared form.Await cs = lay_open (layout form.Await cs) cs
+bared form.Yield cs = lone_bare (layout form.Yield) refl (λ c cs. refl) cs
 bared form.Script cs = run_shut cs cs _ (λ es. refl)
-bared form.ExprStmt cs = the_first cs ∙ lay_any (layout form.ExprStmt cs) cs
+bared form.ExprStmt cs = lay_open (layout form.ExprStmt cs) cs
 bared form.Var cs = var_bare cs
-bared form.Return cs = return_bare cs
+bared form.Return cs = lone_bare (layout form.Return) refl (λ c cs. refl) cs
 bared form.If cs = if_bare cs
-bared form.While cs = the_second cs ∙ lay_any (layout form.While cs) cs
+bared form.While cs = lay_open (layout form.While cs) cs
 bared (form.For i t u) cs = for_bare i t u cs
-bared form.ForIn cs = first_third cs ∙ lay_any (layout form.ForIn cs) cs
+bared form.ForIn cs = lay_open (layout form.ForIn cs) cs
 bared form.Block cs = run_shut cs cs _ (λ es. refl)
-bared form.Labeled cs = first_two cs ∙ lay_any (layout form.Labeled cs) cs
+bared form.Labeled cs = lay_open (layout form.Labeled cs) cs
 bared form.Empty cs = refl
 bared (form.Hole s) cs = refl
 

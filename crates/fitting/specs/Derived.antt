@@ -1,6 +1,9 @@
 -- What a tree is, from its root's form and the summary of its children.
 --
 --   open_of f       which children of a record of the form f are in the open, so that an `in` in them is one of the record
+--   head_parts i t u    how many parts of a For's head are there
+--   marks a b c d   the first four children, each if it is marked
+--   marked ms cs    an `in` stands in the open in one of cs that ms marks
 --   bare o cs       an `in` stands in the open in one of those of cs
 --   opening_of f    what a record of the form f begins with: a token, or its first child
 --   begins o cs     what it begins with, over children with the attributes cs
@@ -9,7 +12,7 @@
 --   whole_of f      whether a record of the form f is a single one, whatever its children
 --
 -- Assumes nothing.
-use Rattle.std.specs.Prelude.{Bool, true, false, cond, not, ◌&&◌, ◌||◌, List, eqb, leb}
+use Rattle.std.specs.Prelude.{ℕ, ◌+◌, Bool, true, false, cond, not, ◌&&◌, ◌||◌, List, [], ◌∷◌, eqb, leb}
 use Rattle.kinds.specs.declared.form.Form.{Form}
 use Rattle.kinds.specs.declared.form.Form.TheVariants as form
 use Rattle.kinds.specs.declared.form.Key.{Key}
@@ -21,7 +24,7 @@ use Rattle.kinds.specs.declared.operator.Side.TheVariants as side
 use Rattle.grammar.specs.Site.{Attr, Begin, is_sort, valued}
 use Rattle.grammar.specs.Layout.{is_plain}
 use Rattle.fitting.specs.Traits.{begin_of}
-use Rattle.fitting.specs.Summary.{number, first, second, third, fourth, last, any_bare}
+use Rattle.fitting.specs.Summary.{number, first, leading, last, any_bare}
 use Rattle.fitting.specs.declared.traits.Begin.TheVariants as first_token
 use Rattle.fitting.specs.declared.derived.Open.{Open}
 use Rattle.fitting.specs.declared.derived.Open.TheVariants as opens
@@ -30,72 +33,77 @@ use Rattle.fitting.specs.declared.derived.Opening.TheVariants as opening
 use Rattle.fitting.specs.declared.derived.Tail.{Tail}
 use Rattle.fitting.specs.declared.derived.Tail.TheVariants as tail
 
+abbrev pub marks : Bool → Bool → Bool → Bool → Open
+marks a b c d = opens.Marked (a ∷ (b ∷ (c ∷ (d ∷ []))))
+
 abbrev pub prop_open : Key → Open
-prop_open key.Fixed = opens.First
-prop_open key.Computed = opens.Nothing
+prop_open key.Fixed = marks true false false false
+prop_open key.Computed = marks false false false false
 
 abbrev pub fn_open : Own → Open
-fn_open own.Nameless = opens.Nothing
-fn_open own.Named = opens.First
+fn_open own.Nameless = marks false false false false
+fn_open own.Named = marks true false false false
+
+-- How many of the init, the test and the update of a For are there.
+abbrev pub head_parts : Bool → Bool → Bool → ℕ
+head_parts i t u = cond i 1 0 + cond t 1 0 + cond u 1 0
 
 abbrev pub for_open : Bool → Bool → Bool → Open
-for_open true true true = opens.FirstFour
-for_open true true false = opens.FirstThree
-for_open true false true = opens.FirstThree
-for_open true false false = opens.FirstTwo
-for_open false true true = opens.FirstThree
-for_open false true false = opens.FirstTwo
-for_open false false true = opens.FirstTwo
-for_open false false false = opens.First
+for_open true true true = marks true true true true
+for_open true true false = marks true true true false
+for_open true false true = marks true true true false
+for_open true false false = marks true true false false
+for_open false true true = marks true true true false
+for_open false true false = marks true true false false
+for_open false false true = marks true true false false
+for_open false false false = marks true false false false
 
 abbrev pub open_of : Form → Open
-open_of form.Free = opens.Nothing
-open_of (form.Name b) = opens.Nothing
-open_of form.Num = opens.Nothing
-open_of form.Str = opens.Nothing
-open_of (form.Word w) = opens.Nothing
-open_of form.This = opens.Nothing
-open_of form.Array = opens.Nothing
-open_of form.Object = opens.Nothing
+open_of form.Free = marks false false false false
+open_of (form.Name b) = marks false false false false
+open_of form.Num = marks false false false false
+open_of form.Str = marks false false false false
+open_of (form.Word w) = marks false false false false
+open_of form.This = marks false false false false
+open_of form.Array = marks false false false false
+open_of form.Object = marks false false false false
 open_of (form.Prop k) = prop_open k
 open_of (form.Fn o) = fn_open o
 open_of form.Arrow = opens.Last
-open_of (form.Unary o) = opens.First
-open_of (form.Update o s) = opens.First
-open_of (form.Bin o) = opens.FirstTwo
-open_of (form.Assign o) = opens.FirstTwo
-open_of form.Cond = opens.FirstAndThird
+open_of (form.Unary o) = marks true false false false
+open_of (form.Update o s) = marks true false false false
+open_of (form.Bin o) = marks true true false false
+open_of (form.Assign o) = marks true true false false
+open_of form.Cond = marks true false true false
 open_of form.Seq = opens.All
-open_of form.Paren = opens.Nothing
-open_of form.Call = opens.First
-open_of (form.New a) = opens.First
-open_of (form.Member k) = opens.First
-open_of (form.Chain l e) = opens.First
-open_of form.Await = opens.First
-open_of form.Yield = opens.First
-open_of form.Script = opens.Nothing
-open_of form.ExprStmt = opens.First
+open_of form.Paren = marks false false false false
+open_of form.Call = marks true false false false
+open_of (form.New a) = marks true false false false
+open_of (form.Member k) = marks true false false false
+open_of (form.Chain l e) = marks true false false false
+open_of form.Await = marks true false false false
+open_of form.Yield = marks true false false false
+open_of form.Script = marks false false false false
+open_of form.ExprStmt = marks true false false false
 open_of form.Var = opens.All
-open_of form.Return = opens.First
-open_of form.If = opens.SecondAndThird
-open_of form.While = opens.Second
+open_of form.Return = marks true false false false
+open_of form.If = marks false true true false
+open_of form.While = marks false true false false
 open_of (form.For i t u) = for_open i t u
-open_of form.ForIn = opens.FirstAndThird
-open_of form.Block = opens.Nothing
-open_of form.Labeled = opens.FirstTwo
-open_of form.Empty = opens.Nothing
-open_of (form.Hole s) = opens.Nothing
+open_of form.ForIn = marks true false true false
+open_of form.Block = marks false false false false
+open_of form.Labeled = marks true true false false
+open_of form.Empty = marks false false false false
+open_of (form.Hole s) = marks false false false false
+
+abbrev pub marked : List Bool → List Attr → Bool
+marked [] cs = false
+marked (m ∷ ms) [] = false
+marked (m ∷ ms) (c ∷ cs) = (m && c.bare_in) || marked ms cs
 
 abbrev pub bare : Open → List Attr → Bool
-bare opens.Nothing cs = false
-bare opens.First cs = (first cs).bare_in
-bare opens.Second cs = (second cs).bare_in
+bare (opens.Marked ms) cs = marked ms (leading cs)
 bare opens.Last cs = (last cs).bare_in
-bare opens.FirstTwo cs = (first cs).bare_in || (second cs).bare_in
-bare opens.FirstAndThird cs = (first cs).bare_in || (third cs).bare_in
-bare opens.SecondAndThird cs = (second cs).bare_in || (third cs).bare_in
-bare opens.FirstThree cs = (first cs).bare_in || ((second cs).bare_in || (third cs).bare_in)
-bare opens.FirstFour cs = (first cs).bare_in || ((second cs).bare_in || ((third cs).bare_in || (fourth cs).bare_in))
 bare opens.All cs = any_bare cs
 
 abbrev pub prop_opening : Key → Opening

@@ -1,12 +1,12 @@
 // What a tree is, from its root's form and the summary of its children.
 
-ghost use Rattle.std.specs.Prelude.{◌≡◌, ◌&&◌, ◌||◌, List};
+ghost use Rattle.std.specs.Prelude.{◌≡◌, ◌&&◌, ◌||◌, List, map};
 ghost use Rattle.kinds.specs.Levels.{is_c, is_o, is_target};
 ghost use Rattle.grammar.specs.Site.{Attr};
 ghost use Rattle.grammar.specs.Layout.{attr_of, is_in};
 ghost use Rattle.fitting.specs.Traits.{traits_of, begin_of};
 ghost use Rattle.fitting.specs.Summary.{Sums};
-ghost use Rattle.fitting.specs.Derived.{open_of, for_open, bare, opening_of, begins as begins_of, tail_of, dangling, whole_of, declares, one_name};
+ghost use Rattle.fitting.specs.Derived.{open_of, head_parts, for_open, marked, bare, opening_of, begins as begins_of, tail_of, dangling, whole_of, declares, one_name};
 
 use crate::summary::Summary;
 use crate::traits::{Begin, Traits};
@@ -15,15 +15,11 @@ use kinds::{BinaryOperator, Binding, Form, Key, Own, Side, Slot};
 /// Which children are in the open, so that an `in` in the open in one of them is in the open in the record.
 #[derive(Clone, Copy, PartialEq, Eq, Debug)]
 pub enum Open {
-    Nothing,
-    First,
-    Second,
+    /// Of the first four, those that are marked.
+    Marked([bool; 4]),
+    /// The last.
     Last,
-    FirstTwo,
-    FirstAndThird,
-    SecondAndThird,
-    FirstThree,
-    FirstFour,
+    /// All of them.
     All,
 }
 
@@ -70,18 +66,22 @@ impl Traits {
     }
 }
 
-// The three flags are the fields of `Form::For`: a struct of them would change that form, and with it what the grammar says of it.
+/// How many of a For's init, test and update are there.
+pub fn head_parts(init: bool, test: bool, update: bool) -> usize
+    ensures { result ≡ head_parts init test update }
+{
+    usize::from(init) + usize::from(test) + usize::from(update)
+}
+
+/// The parts of a For's head that are there, and its body behind them: all are in the open.
 fn open_in_for(init: bool, test: bool, update: bool) -> Open
     ensures { result ≡ for_open init test update }
 {
-    match (init, test, update) {
-        (true, true, true) => Open::FirstFour,
-        (true, true, false) | (true, false, true) | (false, true, true) => Open::FirstThree,
-        (true, false, false) | (false, true, false) | (false, false, true) => Open::FirstTwo,
-        (false, false, false) => Open::First,
-    }
+    let parts = head_parts(init, test, update);
+    Open::Marked([true, parts > 0, parts > 1, parts > 2])
 }
 
+/// Which children of a record of this form are in the open.
 fn open_children(form: Form) -> Open
     ensures { result ≡ open_of form }
 {
@@ -97,37 +97,40 @@ fn open_children(form: Form) -> Open
         | Form::Await
         | Form::Yield
         | Form::ExprStmt
-        | Form::Return => Open::First,
-        Form::While => Open::Second,
+        | Form::Return => Open::Marked([true, false, false, false]),
+        Form::While => Open::Marked([false, true, false, false]),
         Form::Arrow => Open::Last,
-        Form::Bin(_) | Form::Assign(_) | Form::Labeled => Open::FirstTwo,
-        Form::Cond | Form::ForIn => Open::FirstAndThird,
-        Form::If => Open::SecondAndThird,
+        Form::Bin(_) | Form::Assign(_) | Form::Labeled => Open::Marked([true, true, false, false]),
+        Form::Cond | Form::ForIn => Open::Marked([true, false, true, false]),
+        Form::If => Open::Marked([false, true, true, false]),
         Form::For { init, test, update } => open_in_for(init, test, update),
         Form::Seq | Form::Var => Open::All,
-        _ => Open::Nothing,
+        _ => Open::Marked([false; 4]),
     }
+}
+
+/// Whether an `in` stands in the open in one of the children that are marked.
+fn bare_in_marked(children: &[Traits], marks: &[bool]) -> bool
+    ensures { result ≡ marked marks.now (map traits_of children.now) }
+{
+    children
+        .iter()
+        .zip(marks)
+        .any(|(child, open)| *open && child.bare_in)
 }
 
 /// Whether an `in` stands in the open in one of the children that are in the open.
 fn open_in(parts: Open, children: Summary) -> bool
     ensures { (cs : List Attr) → Sums cs children → result ≡ bare parts cs }
 {
-    let [first, second, third, fourth] = children.leading;
     match parts {
-        Open::Nothing => false,
-        Open::First => first.bare_in,
-        Open::Second => second.bare_in,
+        Open::Marked(marks) => bare_in_marked(&children.leading, &marks),
         Open::Last => children.last.bare_in,
-        Open::FirstTwo => first.bare_in || second.bare_in,
-        Open::FirstAndThird => first.bare_in || third.bare_in,
-        Open::SecondAndThird => second.bare_in || third.bare_in,
-        Open::FirstThree => first.bare_in || second.bare_in || third.bare_in,
-        Open::FirstFour => first.bare_in || second.bare_in || third.bare_in || fourth.bare_in,
         Open::All => children.bare_in,
     }
 }
 
+/// What a record of this form begins with.
 fn opens_with(form: Form) -> Opening
     ensures { result ≡ opening_of form }
 {
@@ -150,6 +153,7 @@ fn opens_with(form: Form) -> Opening
     }
 }
 
+/// The first token of a record that begins so.
 fn begins(opening: Opening, children: Summary) -> Begin
     ensures { (cs : List Attr) → Sums cs children → begin_of result ≡ begins_of opening cs }
 {
@@ -159,6 +163,7 @@ fn begins(opening: Opening, children: Summary) -> Begin
     }
 }
 
+/// When an `else` behind a record of this form could be its own.
 fn tail_of(form: Form) -> Tail
     ensures { result ≡ tail_of form }
 {
@@ -169,6 +174,7 @@ fn tail_of(form: Form) -> Tail
     }
 }
 
+/// Whether an `else` behind the record could be its own.
 fn dangles(tail: Tail, children: Summary) -> bool
     ensures { (cs : List Attr) → Sums cs children → result ≡ dangling tail cs }
 {

@@ -5,9 +5,10 @@ ghost use Rattle.grammar.specs.Site.{Attr, init, stmt};
 ghost use Rattle.grammar.specs.Layout.{layout, fit_kids, init_site, left_site};
 ghost use Rattle.fitting.specs.Traits.{site_of, traits_of};
 ghost use Rattle.fitting.specs.Summary.{Sums};
-ghost use Rattle.fitting.specs.Sites.{stand, fit_sites, none as none_of, one as one_of, heads as heads_of, ends as ends_of, asks_key, asks_link, asks_for, asks, is_complete, entry_site};
+ghost use Rattle.fitting.specs.Sites.{stand, fit_sites, none as none_of, one as one_of, heads as heads_of, ends as ends_of, asks_key, asks_link, asks, is_complete, entry_site};
 ghost use Rattle.kinds.specs.declared.form.Form.TheVariants as form;
 
+use crate::derived::head_parts;
 use crate::site::Site;
 use crate::summary::{Declared, Summary};
 use crate::traits::Traits;
@@ -22,6 +23,7 @@ const VALUE: Site = Site::At(Slot::Assignment);
 
 impl Declared {
     /// Whether these are all Names and values of a Var.
+    // No `==` at its use: it carries the clause that ties it to `is_complete` of specs/Sites.
     pub fn is_complete(self) -> bool
         ensures { result ≡ is_complete self }
     {
@@ -96,29 +98,17 @@ fn link_fits(link: Link, children: Summary, before: Site) -> bool
     }
 }
 
-// The three flags are the fields of `Form::For`, as in `open_in_for`.
-/// The three parts of a For's head that are there, and its body.
-fn head_fits(init: bool, test: bool, update: bool, first: Site, children: Summary) -> bool
-    ensures { (cs : List Attr) → Sums cs children → result ≡ asks_for init test update (site_of first) cs }
-{
-    match (init, test, update) {
-        (true, true, true) => children.exactly(&[first, ANY, ANY, Site::Statement]),
-        (true, true, false) | (true, false, true) => children.exactly(&[
-            first,
-            ANY,
-            Site::Statement,
-        ]),
-        (true, false, false) => children.exactly(&[first, Site::Statement]),
-        (false, true, true) => children.exactly(&[ANY, ANY, Site::Statement]),
-        (false, true, false) | (false, false, true) => children.exactly(&[ANY, Site::Statement]),
-        (false, false, false) => children.exactly(&[Site::Statement]),
-    }
-}
-
+/// The parts of a For's head that are there, and its body behind them.
 fn for_fits(init: bool, test: bool, update: bool, children: Summary) -> bool
     ensures { (cs : List Attr) → Sums cs children → result ≡ asks (form.For init test update) cs }
 {
-    head_fits(init, test, update, children.init_site(), children)
+    let parts = head_parts(init, test, update);
+    let mut sites = [ANY; 4];
+    if init {
+        sites[0] = children.init_site();
+    }
+    sites[parts] = Site::Statement;
+    children.exactly(&sites[..=parts])
 }
 
 /// What is walked, the object, and the body.
@@ -146,6 +136,7 @@ fn if_fits(children: Summary) -> bool
     }
 }
 
+/// Behind `new`: a callee, with its arguments or alone.
 fn new_fits(arguments: Arguments, children: Summary) -> bool
     ensures { (cs : List Attr) → Sums cs children → result ≡ asks (form.New arguments) cs }
 {
@@ -155,6 +146,7 @@ fn new_fits(arguments: Arguments, children: Summary) -> bool
     }
 }
 
+/// A key, and its value.
 fn prop_fits(key: Key, children: Summary) -> bool
     ensures { (cs : List Attr) → Sums cs children → result ≡ asks (form.Prop key) cs }
 {
@@ -164,6 +156,7 @@ fn prop_fits(key: Key, children: Summary) -> bool
     }
 }
 
+/// An object, and a Name or a key behind it.
 fn member_fits(key: Key, children: Summary) -> bool
     ensures { (cs : List Attr) → Sums cs children → result ≡ asks (form.Member key) cs }
 {
@@ -174,6 +167,7 @@ fn member_fits(key: Key, children: Summary) -> bool
     }
 }
 
+/// What a link of an optional chain stands on, and what it goes on with.
 fn chain_fits(link: Link, entry: Entry, children: Summary) -> bool
     ensures { (cs : List Attr) → Sums cs children → result ≡ asks (form.Chain link entry) cs }
 {
@@ -183,6 +177,7 @@ fn chain_fits(link: Link, entry: Entry, children: Summary) -> bool
     }
 }
 
+/// The Name of a Fn if it has one, its parameters, and its body.
 fn fn_fits(own: Own, children: Summary) -> bool
     ensures { (cs : List Attr) → Sums cs children → result ≡ asks (form.Fn own) cs }
 {
@@ -193,9 +188,10 @@ fn fn_fits(own: Own, children: Summary) -> bool
     }
 }
 
-/// Whether children are those that the form asks for, each at its site.
-fn satisfied(form: Form, children: Summary) -> bool
-    ensures { (cs : List Attr) → Sums cs children → result ≡ asks form cs }
+/// Whether each of the children of a record of this form may stand where it stands.
+#[tactic(auto, using(crate::proofs::Asked::asked_by))]
+pub fn children_fit(form: Form, children: Summary) -> bool
+    ensures { (cs : List Attr) → Sums cs children → result ≡ fit_kids (layout form cs) cs }
 {
     match form {
         Form::Free
@@ -236,11 +232,4 @@ fn satisfied(form: Form, children: Summary) -> bool
         Form::ForIn => for_in_fits(children),
         Form::Labeled => children.exactly(&[Site::PlainName, Site::Statement]),
     }
-}
-
-/// Whether each of the children of a record of this form may stand where it stands.
-pub fn children_fit(form: Form, children: Summary) -> bool
-    ensures { (cs : List Attr) → Sums cs children → result ≡ fit_kids (layout form cs) cs }
-{
-    satisfied(form, children)
 }

@@ -1,4 +1,7 @@
-// What a tree is, as far as the place where it stands can ask, and whether the children of a record may stand where they stand.
+// What a tree is, as far as the place where it stands can ask, and whether the children of a record may stand where
+// they stand.
+// A form stands before its children in all parameters, and these are no methods of `Summary`: so other crates call
+// `traits_of` and `children_fit`, and what those stand on follows them.
 
 #![tactic(auto)]
 

@@ -75,10 +75,11 @@ pub struct Summary {
     pub declared: Declared,
 }
 
+/// One more than the number, up to five.
 fn one_more(number: u8) -> u8
     ensures { result ≡ more number }
 {
-    if number < 5 { number + 1 } else { 5 }
+    number.min(4) + 1
 }
 
 impl Summary {
@@ -111,7 +112,8 @@ impl Summary {
         if self.number < 4 {
             leading[self.number as usize] = child;
         }
-        // `&` and `|`: both sides are at hand, and each `&&` would be a fork that the proof joins again.
+        // `&` and `|`: both sides are at hand. Tried: `&&` and `||` make six forks, each with a join (`if-self` ..
+        // `if-self-6`); the check said of the proof that behind them the record of steps "has no field `is_property`".
         Summary {
             number: one_more(self.number),
             leading,

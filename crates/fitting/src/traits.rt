@@ -31,6 +31,8 @@ pub struct Traits {
     pub single: bool,
 }
 
+// `is_brace`, `is_other`, `is_block`, `is_declaration`, `is_property` and `is_valued` are functions, and no `==` at
+// each use: each carries the clause that ties it to the grammar's beginning or sort.
 impl Begin {
     /// Whether it is `{`.
     pub fn is_brace(self) -> bool
@@ -48,7 +50,9 @@ impl Begin {
 }
 
 impl Traits {
-    /// What stands for a child that is not there.
+    /// What stands for a child that is not there: the traits of no form.
+    // No Option: the grammar's `first_begin []`, `first_standing []` and `last_dangles []` are its values, so that no
+    // read needs a test.
     pub const ABSENT: Traits = Traits {
         form: Form::Free,
         over_call: false,
@@ -102,28 +106,32 @@ impl Traits {
         )
     }
 
+    /// Whether it is a Block.
     pub fn is_block(self) -> bool
         ensures { result ≡ is_sort block (traits_of self) }
     {
-        matches!(self.form, Form::Block)
+        self.form == Form::Block
     }
 
+    /// Whether it is a Var.
     pub fn is_declaration(self) -> bool
         ensures { result ≡ is_sort declaration (traits_of self) }
     {
-        matches!(self.form, Form::Var)
+        self.form == Form::Var
     }
 
+    /// Whether it is a Prop.
     pub fn is_property(self) -> bool
         ensures { result ≡ is_sort property (traits_of self) }
     {
         matches!(self.form, Form::Prop(_))
     }
 
+    /// Whether it is a Name of a Var that a value follows.
     pub fn is_valued(self) -> bool
         ensures { result ≡ is_sort valued (traits_of self) }
     {
-        matches!(self.form, Form::Name(Binding::Valued))
+        self.form == Form::Name(Binding::Valued)
     }
 
     /// Whether it may stand bare in the slot, if it is an expression.

@@ -1,4 +1,5 @@
-// The grammar of rules, and that no token list has two readings. The definitions stand in `specs`; each function here carries one law.
+// The grammar of rules, and that no token list has two readings. The definitions stand in `specs`; each function here
+// carries one law.
 
 #![tactic(auto)]
 
@@ -34,7 +35,8 @@ pub fn examples_hold()
     ensures cores { CoresHold }
 {}
 
-/// The core form of a tree is what its rules come to, in whatever order they are applied, and nothing changes it any more.
+/// The core form of a tree is what its rules come to, in whatever order they are applied, and nothing changes it any
+/// more.
 pub fn core_form_law()
     ensures { CoreLaw }
 {}
@@ -59,26 +61,29 @@ pub fn productions_hold()
     ensures without_in { WithoutIn }
 {}
 
-/// The place of a record runs from its first token's `lo` to its last token's `hi`; a script without tokens has the place 0 to 0.
+/// The place of a record runs from its first token's `lo` to its last token's `hi`; a script without tokens has the
+/// place 0 to 0.
 pub fn places_law()
     ensures parts { PartsPlaced }
     ensures scripts { ScriptsPlaced }
 {}
 
-/// The laws of `derived_is_good` and of `good_is_derived` hold of every part of a script too, at the site where it stands and with what
-/// follows it: a derived part is good and writes its tokens, and tokens spelled as a good part is written derive one of its shape.
+/// The laws of `derived_is_good` and of `good_is_derived` hold of every part of a script too, at the site where it
+/// stands and with what follows it: a derived part is good and writes its tokens, and tokens spelled as a good part is
+/// written derive one of its shape.
 pub fn parts_are_good()
     ensures good { PartGood }
     ensures derives { PartDerives }
 {}
 
-/// A reading has at most one record more than tokens, and nests at most as deep as it has records: fewer than 512 tokens never nest
-/// deeper than 512.
+/// A reading has at most one record more than tokens, and nests at most as deep as it has records: fewer than 512
+/// tokens never nest deeper than 512.
 pub fn sizes_law()
     ensures { SizesBounded }
 {}
 
-/// What the reader of the specification finds for a goal is written with exactly the tokens that it ate, also where the tree is not good.
+/// What the reader of the specification finds for a goal is written with exactly the tokens that it ate, also where the
+/// tree is not good.
 pub fn found_is_written()
     ensures { FoundWritten }
 {}

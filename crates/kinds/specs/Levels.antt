@@ -10,6 +10,7 @@
 --                       optional chain; all others
 --   is_target s         a Name, a Member, or a pair round a target
 --   fits p s            an expression of the standing s may stand bare in the slot p
+--   slot_of l           the slot that takes what is of the level l, 4 to 13, and all that is tighter
 --   left_slot o, right_slot o    the slots of the operands of a binary operator
 --
 -- Assumes nothing.
@@ -357,6 +358,20 @@ fits slot.Chain s = is_o s
 fits slot.Target s = is_target s
 fits slot.Identifier s = order s == 24
 fits slot.PropertyName s = order s == 22 || order s == 24
+
+-- The slot of a level of operators.
+abbrev pub slot_of : ℕ → Slot
+slot_of l =
+    cond (l == 4) slot.LogicalAnd
+    (cond (l == 5) slot.BitwiseOr
+    (cond (l == 6) slot.BitwiseXor
+    (cond (l == 7) slot.BitwiseAnd
+    (cond (l == 8) slot.Equality
+    (cond (l == 9) slot.Relational
+    (cond (l == 10) slot.Shift
+    (cond (l == 11) slot.Additive
+    (cond (l == 12) slot.Multiplicative
+    slot.Exponentiation))))))))
 
 -- The slots of a binary operator.
 abbrev pub left_slot : BinaryOperator → Slot

@@ -1,7 +1,7 @@
 // How tightly an expression holds together, and which slots it may stand in bare.
 
 ghost use Rattle.std.specs.Prelude.{◌≡◌, Bool};
-ghost use Rattle.kinds.specs.Levels.{form_level, binary_level, class_of, target_of, standing, fits, left_slot, right_slot};
+ghost use Rattle.kinds.specs.Levels.{form_level, binary_level, class_of, target_of, standing, fits, slot_of, left_slot, right_slot};
 ghost use Rattle.kinds.specs.Tables.{TablesAgree};
 
 use crate::form::{Arguments, Binding, Form};
@@ -105,6 +105,7 @@ pub fn binary_level(op: BinaryOperator) -> u8
 }
 
 /// The level of a form, 0 to 16.
+// A number and no enum of levels: it is counted one up (`right_slot`) and compared with bounds (`fits`, `class_of`).
 pub fn level(form: Form) -> u8
     ensures { result ≡ form_level form }
 {
@@ -119,8 +120,10 @@ pub fn level(form: Form) -> u8
     }
 }
 
-/// The class of an expression of level 16, told whether its first child is of the class C; looser ones have none. It is asked of expressions
-/// only: any other form counts as level 16, so its answer is `Some(Class::M)` and means nothing.
+/// The class of an expression of level 16, told whether its first child is of the class C; looser ones have none. It is
+/// asked of expressions only: any other form counts as level 16, so its answer is `Some(Class::M)` and means nothing.
+// Not None for those: `class_of` of specs/Levels, which the contract cites, gives them `Some(class.M)`, as it asks the
+// level alone; None would take a list of the forms that are no expressions, here and there.
 pub fn class_of(form: Form, over_call: bool) -> Option<Class>
     ensures { result ≡ class_of form over_call }
 {
@@ -145,10 +148,11 @@ pub fn target(form: Form, over_target: bool) -> bool
     }
 }
 
-/// Whether an expression may stand bare in a slot, told whether its first child is of the class C, and a target. It is asked of expressions
-/// only: any other form counts as level 16 and class M, so it seems to fit most slots.
-// The form and what is asked of its first child are three parameters: this is the only function that takes them all, and a struct of
-// them would have to be built and named at each call.
+/// Whether an expression may stand bare in a slot, told whether its first child is of the class C, and a target. It is
+/// asked of expressions only: any other form counts as level 16 and class M, so it seems to fit most slots.
+// The form and what is asked of its first child are three parameters: this is the only function that takes them all,
+// and a struct of them would have to be built and named at each call.
+// The least levels are arms here and no second table: eight of the slots have none, and two take an operator besides.
 pub fn fits(slot: Slot, form: Form, over_call: bool, over_target: bool) -> bool
     ensures { result ≡ fits slot (standing form over_call over_target) }
 {
@@ -187,24 +191,34 @@ pub fn fits(slot: Slot, form: Form, over_call: bool, over_target: bool) -> bool
     }
 }
 
-/// The slot of the left operand. Operators of one level lean to the left, so it takes the operator's own level; only `**` leans to
-/// the right, and `||` and `??` do not mix.
+/// The slot that an operator's level opens, 4 to 13: what is of this level fits, and all that is tighter.
+fn slot_of(level: u8) -> Slot
+    ensures { result ≡ slot_of level }
+{
+    match level {
+        4 => Slot::LogicalAnd,
+        5 => Slot::BitwiseOr,
+        6 => Slot::BitwiseXor,
+        7 => Slot::BitwiseAnd,
+        8 => Slot::Equality,
+        9 => Slot::Relational,
+        10 => Slot::Shift,
+        11 => Slot::Additive,
+        12 => Slot::Multiplicative,
+        _ => Slot::Exponentiation,
+    }
+}
+
+/// The slot of the left operand. Operators of one level lean to the left, so it takes the operator's own level; only
+/// `**` leans to the right, and `||` and `??` do not mix.
 pub fn left_slot(op: BinaryOperator) -> Slot
     ensures { result ≡ left_slot op }
 {
-    match (op, binary_level(op)) {
-        (BinaryOperator::Coalesce, _) => Slot::Coalesce,
-        (BinaryOperator::Exponent, _) => Slot::Update,
-        (_, 3) => Slot::LogicalOr,
-        (_, 4) => Slot::LogicalAnd,
-        (_, 5) => Slot::BitwiseOr,
-        (_, 6) => Slot::BitwiseXor,
-        (_, 7) => Slot::BitwiseAnd,
-        (_, 8) => Slot::Equality,
-        (_, 9) => Slot::Relational,
-        (_, 10) => Slot::Shift,
-        (_, 11) => Slot::Additive,
-        (_, _) => Slot::Multiplicative,
+    match op {
+        BinaryOperator::Coalesce => Slot::Coalesce,
+        BinaryOperator::Or => Slot::LogicalOr,
+        BinaryOperator::Exponent => Slot::Update,
+        _ => slot_of(binary_level(op)),
     }
 }
 
@@ -212,22 +226,15 @@ pub fn left_slot(op: BinaryOperator) -> Slot
 pub fn right_slot(op: BinaryOperator) -> Slot
     ensures { result ≡ right_slot op }
 {
-    match (op, binary_level(op)) {
-        (BinaryOperator::Coalesce, _) => Slot::BitwiseOr,
-        (_, 3) => Slot::LogicalAnd,
-        (_, 4) => Slot::BitwiseOr,
-        (_, 5) => Slot::BitwiseXor,
-        (_, 6) => Slot::BitwiseAnd,
-        (_, 7) => Slot::Equality,
-        (_, 8) => Slot::Relational,
-        (_, 9) => Slot::Shift,
-        (_, 10) => Slot::Additive,
-        (_, 11) => Slot::Multiplicative,
-        (_, _) => Slot::Exponentiation,
+    match op {
+        BinaryOperator::Coalesce => Slot::BitwiseOr,
+        BinaryOperator::Exponent => Slot::Exponentiation,
+        _ => slot_of(binary_level(op) + 1),
     }
 }
 
-/// The tables by which levels, classes and targets are answered agree with the standings that the grammar is stated with.
+/// The tables by which levels, classes and targets are answered agree with the standings that the grammar is stated
+/// with.
 pub fn tables_agree()
     ensures { TablesAgree }
 {}

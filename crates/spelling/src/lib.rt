@@ -1,5 +1,6 @@
 // The fixed spellings: from a spelling to its code, and back.
-// `Code` is another crate's, so these are functions here and no impls of FromStr and Display.
+// `Code` is another crate's, so these are functions here and no impls of FromStr and Display. They are no part of that
+// crate for the time that the match takes to prove: docs/DECISIONS.md, "The spelling match has a crate of its own".
 
 #![tactic(auto)]
 
@@ -11,7 +12,8 @@ ghost use Rattle.spelling.specs.Spelling.{CodeOf, ExactlyIf, SpelledApart, spell
 pub use text::spelling_of;
 use token::{AssignOperator, Code, Operator, Punctuator, Word};
 
-// Written out beside the table of text.rt: a search of that one would need a list of all the codes, as long as this table.
+// Written out beside the table of text.rt: a search of that one would need a list of all the codes, as long as this
+// table.
 /// The code that is spelled `spelling`, or `None` if no code is: then it is a name, a number, a string or no token.
 pub fn code_of(spelling: &str) -> Option<Code>
     ensures { CodeOf spelling.now result }
