@@ -33,16 +33,6 @@ pub(crate) struct Found {
     pub(crate) list: NoteList,
 }
 
-/// Makes every record an unused one.
-fn clear(slots: &mut [Head])
-    ensures unused { (i : ℕ) → list_at slots.new i ≡ None }
-    ensures length { length slots.new ≡ length slots.old }
-{
-    for head in slots.iter_mut() {
-        head.content = None;
-    }
-}
-
 /// The caller's records, where the chain of the unused ones begins, and the last slot that ever held a list, so that a
 /// search need not go beyond.
 #[derive(Drop)]
@@ -62,7 +52,7 @@ impl<'a> Heads<'a> {
         ensures lender { SameLoan slots.entry result.slots }
     {
         let last = usize::from(chain::last_slot(slots));
-        clear(&mut slots[..last]);
+        slots[..last].fill(Head::UNUSED);
         let free = chain::make(slots);
         Heads {
             slots,
