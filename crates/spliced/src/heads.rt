@@ -66,12 +66,9 @@ impl<'a> Heads<'a> {
         ensures high { IfSome result (λ f. f.head ≤ self.now.high) }
         ensures finds { MatchOption result (Nowhere self.now.slots.now spot.side spot.offset) (λ f. At self.now.slots.now spot.side spot.offset f.head f.list) }
     {
-        for (i, head) in self.slots[..usize::from(self.high)].iter().enumerate() {
-            if let Some(list) = head.content {
-                if list.spot == spot {
-                    let head = i as u16 + 1;
-                    return Some(Found { head, list });
-                }
+        for (head, record) in (1..=self.high).zip(self.slots.iter()) {
+            if let Some(list) = record.content && list.spot == spot {
+                return Some(Found { head, list });
             }
         }
         None
