@@ -1,7 +1,8 @@
 // The chain of unused records: making it, drawing from it, giving back to it, and what a walk along any chain needs.
 // Records and head stay two parameters: methods of a struct that borrows the records would each owe that it still has those.
 ghost use Rattle.std.specs.Prelude.{◌≡◌, ℕ, ◌-◌, ◌<◌, List, ◌∷◌, map, length, MatchOption, slice_index_or};
-ghost use Rattle.chain.specs.Chain.{room, Slot, link_at, Chain, Off, Drawn, slots_from, after, relinked, Beyond};
+ghost use Rattle.std.specs.Borrow.{sem};
+ghost use Rattle.chain.specs.Chain.{LendsRecord, room, Slot, link_at, Chain, Off, Drawn, slots_from, after, relinked, Beyond};
 ghost use Rattle.chain.specs.Laws.{ChainLaws};
 
 use crate::bound::Link;
@@ -34,6 +35,15 @@ pub fn record_at<T>(slots: &[T], slot: u16) -> Option<&T>
     slots.get(usize::from(slot).checked_sub(1)?)
 }
 
+/// The record of a slot, to be written.
+pub fn record_mut<T>(slots: &mut [T], slot: u16) -> &mut T
+    requires inside { Slot (length slots.old) slot }
+    ensures* writes_back { sem 𝓛 (LendsRecord T.row slots.entry slot result) }
+    ensures value { (d : T) → result.now ≡ slice_index_or slots.old (slot - 1) d }
+{
+    &mut slots[usize::from(slot) - 1]
+}
+
 /// The link of a slot's record; none where the number is no slot.
 pub fn next_of<T: Link>(slots: &[T], slot: u16) -> Option<u16>
     ensures { MatchOption result (Slot (length slots.now) slot → ⊥) (λ next. Slot (length slots.now) slot × (next ≡ link_at (map T.link slots.now) slot)) }
@@ -57,7 +67,7 @@ pub fn link_to<T: Link>(slots: &mut [T], slot: u16, next: u16)
     requires inside { Slot (length slots.old) slot }
     ensures records { (d : T) → slots.new ≡ relinked T.linked slots.old slot next d }
 {
-    slots[slot as usize - 1].set_next(next);
+    record_mut(slots, slot).set_next(next);
 }
 
 /// Puts a slot first on the chain that begins at `head`. That is lawful for a slot that is not on the chain: given back
