@@ -1,6 +1,6 @@
 // The chain of unused records: making it, drawing from it, giving back to it, and what a walk along any chain needs.
 // Records and head stay two parameters: methods of a struct that borrows the records would each owe that it still has those.
-ghost use Rattle.std.specs.Prelude.{◌≡◌, ℕ, ◌-◌, ◌<◌, List, ◌∷◌, map, length, MatchOption, slice_index_or};
+ghost use Rattle.std.specs.Prelude.{◌≡◌, ℕ, ◌-◌, ◌<◌, List, ◌∷◌, map, length, MatchOption, slice_index_or, slice_set};
 ghost use Rattle.std.specs.Borrow.{sem};
 ghost use Rattle.chain.specs.Chain.{LendsRecord, room, Slot, link_at, Chain, Off, Drawn, slots_from, after, relinked, Beyond};
 ghost use Rattle.chain.specs.Laws.{ChainLaws};
@@ -81,6 +81,30 @@ pub fn give_back<T: Link>(slots: &mut [T], head: &mut u16, slot: u16)
 {
     link_to(slots, slot, *head);
     *head = slot;
+}
+
+/// Takes the first slot off the chain that begins at `head`, and writes its record; none comes from an empty chain.
+pub fn take<T: Link + Copy>(slots: &mut [T], head: &mut u16, content: T) -> Option<u16>
+    ensures { MatchOption result
+        ((Slot (length slots.old) head.old → ⊥) × (head.new ≡ head.old) × (slots.new ≡ slots.old))
+        (λ k. (k ≡ head.old) × Slot (length slots.old) k × (head.new ≡ link_at (map T.link slots.old) k) × (slots.new ≡ slice_set slots.old (k - 1) content)) }
+{
+    let slot = draw(slots, head)?;
+    *record_mut(slots, slot) = content;
+    Some(slot)
+}
+
+/// Gives a slot back, and leaves its record `blank` but for the link.
+pub fn release<T: Link + Copy>(slots: &mut [T], head: &mut u16, slot: u16, blank: T)
+    requires inside { Slot (length slots.old) slot }
+    requires off { Off (map T.link slots.old) head.old slot }
+    ensures head { head.new ≡ slot }
+    ensures records { slots.new ≡ slice_set slots.old (slot - 1) (T.linked blank head.old) }
+{
+    let next = *head;
+    give_back(slots, head, slot);
+    *record_mut(slots, slot) = blank;
+    link_to(slots, slot, next);
 }
 
 /// How many slots the chain that begins at `head` has. The walk takes no more steps than there are slots, so it ends whatever

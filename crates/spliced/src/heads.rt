@@ -5,7 +5,7 @@ ghost use Rattle.spliced.specs.Linked.{links};
 ghost use Rattle.spliced.specs.Heads.{list_at, with_list, At, Nowhere};
 ghost use Rattle.spliced.specs.Layout.{Idle};
 
-use crate::linked::{Linked, take};
+use crate::linked::Linked;
 use comments::Spot;
 
 /// A list: where it stands, and the slots of its first and its last comment.
@@ -81,7 +81,11 @@ impl<'a> Heads<'a> {
         ensures records { self.new.slots.now ≡ set self.old.slots.now (self.old.free - 1) (record { content = Some list; next = 0 }) }
         ensures lender { SameLoan self.old.slots self.new.slots }
     {
-        let head = take(self.slots, &mut self.free, Some(list));
+        let record = Linked {
+            content: Some(list),
+            next: 0,
+        };
+        let head = chain::take(self.slots, &mut self.free, record).unwrap();
         self.high = self.high.max(head);
     }
 
@@ -94,7 +98,8 @@ impl<'a> Heads<'a> {
         ensures records { self.new.slots.now ≡ with_list self.old.slots.now head (Some list) }
         ensures lender { SameLoan self.old.slots self.new.slots }
     {
-        self.slots[head as usize - 1].content = Some(list);
+        let slots = &mut *self.slots;
+        chain::record_mut(slots, head).content = Some(list);
     }
 
     /// Gives back the record of a list that has become empty.
@@ -105,7 +110,6 @@ impl<'a> Heads<'a> {
         ensures records { self.new.slots.now ≡ set self.old.slots.now (head - 1) (record { content = None; next = self.old.free }) }
         ensures lender { SameLoan self.old.slots self.new.slots }
     {
-        chain::give_back(self.slots, &mut self.free, head);
-        self.slots[head as usize - 1].content = None;
+        chain::release(self.slots, &mut self.free, head, Head::UNUSED);
     }
 }
