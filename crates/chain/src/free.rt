@@ -37,7 +37,7 @@ pub fn record_at<T>(slots: &[T], slot: u16) -> Option<&T>
 
 /// The record of a slot, to be written.
 pub fn record_mut<T>(slots: &mut [T], slot: u16) -> &mut T
-    requires inside { Slot (length slots.old) slot }
+    requires { Slot (length slots.old) slot }
     ensures* writes_back { sem 𝓛 (LendsRecord T.row slots.entry slot result) }
     ensures value { (d : T) → result.now ≡ slice_index_or slots.old (slot - 1) d }
 {

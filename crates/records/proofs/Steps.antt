@@ -234,25 +234,27 @@ leaf_turn s t free free' here r ef ne er z et g js x =
     (turn_leaf s free here g js ne (ap (λ (y : Record). y.first) (sym er) ∙ z) x)))
 
 pub child_turn :
-    (s u t : List Record)
+    (s t : List Record)
     (free here : ℕ)
     (r c : Record)
     → here ≢ 0
     → r ≡ at s here
     → r.first ≢ 0
     → c ≡ at s r.first
-    → u ≡ set s (here - 1) (record { form = r.form; first = c.next; next = r.next; lo = r.lo; hi = r.hi; mark = r.mark })
-    → t ≡ set u (r.first - 1) (record { form = c.form; first = c.first; next = here; lo = c.lo; hi = c.hi; mark = c.mark })
+    → t
+    ≡ set
+    (set s (here - 1) (record { form = r.form; first = c.next; next = r.next; lo = r.lo; hi = r.hi; mark = r.mark }))
+    (r.first - 1)
+    (record { form = c.form; first = c.first; next = here; lo = c.lo; hi = c.hi; mark = c.mark })
     → (g : Siblings)
     (js : List ℕ)
     → Loose s free here g js
     → Turned s t free r.first g js
-child_turn s u t free here r c ne er nz ec eu et g js x =
+child_turn s t free here r c ne er nz ec et g js x =
     subst (λ y. Turned s y free r.first g js) (sym et)
-    (subst (λ y. Turned s (set y (r.first - 1) (along c)) free r.first g js) (sym eu)
     (subst (λ y. Turned s (set (set s (here - 1) (up r y)) (r.first - 1) (along y)) free r.first g js) (sym ec)
     (subst (λ y. Turned s (set (set s (here - 1) (up y (at s y.first))) (y.first - 1) (along (at s y.first))) free y.first g js) (sym er)
-    (turn_child s free here g js ne (λ z. nz (ap (λ (y : Record). y.first) er ∙ z)) x))))
+    (turn_child s free here g js ne (λ z. nz (ap (λ (y : Record). y.first) er ∙ z)) x)))
   where
     up : Record → Record → Record
     up r c = record { form = r.form; first = c.next; next = r.next; lo = r.lo; hi = r.hi; mark = r.mark }

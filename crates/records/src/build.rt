@@ -5,7 +5,6 @@ ghost use Rattle.records.specs.declared.record.Record.{Record};
 ghost use Rattle.records.specs.Building.{rooted, Stands};
 
 use crate::record::{Head, Mark, Record};
-use crate::slots::draw;
 
 /// Draws a record for a parent, and puts it over the row that begins at `first` (0: it has no children). Answers 0 where no
 /// record is left; nothing is promised then, since the row did not leave one.
@@ -21,7 +20,7 @@ pub fn nest(slots: &mut [Record], free: &mut u16, head: Head, first: u16) -> u16
         mark: Mark::Unmarked,
     };
     // 0 and no Option: a reading is counted before it is put up, so a record is left.
-    draw(slots, free, parent).unwrap_or(0)
+    chain::take(slots, free, parent).unwrap_or(0)
 }
 
 /// A row of siblings that grows at its end: the slots of its first and its last tree, both 0 while there is none.

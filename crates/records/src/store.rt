@@ -56,8 +56,7 @@ impl<'a> Store<'a> {
         ensures lender { SameLoan self.old.slots self.new.slots }
     {
         slots::stamp(self.slots, root, Mark::Unmarked);
-        let free = self.free;
-        self.free = give_back_tree(self.slots, free, root);
+        give_back_tree(self.slots, &mut self.free, root);
     }
 
     /// Draws a record for a parent and puts it over its children.

@@ -1,4 +1,4 @@
-use Rattle.std.proofs.Common.{◌≡◌, ◌<◌, ◌≤◌, length, sym, ap, ◌∙◌, subst, arith, length-set}
+use Rattle.std.proofs.Common.{rules, ◌≡◌, ◌<◌, ◌≤◌, length, sym, ap, ◌∙◌, subst, arith, length-set}
 use Rattle.chain.specs.Chain.{room}
 use Rattle.records.specs.declared.record.Record.{Record}
 use Rattle.records.proofs.Steps.{alive, alive_child, head_off, leaf_turn, child_turn, falls, again, ended, Left}
@@ -17,13 +17,13 @@ release-requires c =
 pub loop-here-smaller-then-first-eq0 : goal.loop-here-smaller-then-first-eq0
 loop-here-smaller-then-first-eq0 c =
     falls _ _ _ _ _ _
-    (leaf_turn _ _ c.loop-here.free _ c.loop-here.here c.look-parent.result c.release.ensures.free c.loop-here-test.true c.look-parent.ensures c.if-first-eq0.true c.release.ensures.records)
+    (leaf_turn _ _ c.loop-here.free _ c.loop-here.here c.look-parent.result c.release.ensures.head c.loop-here-test.true c.look-parent.ensures c.if-first-eq0.true c.release.ensures.records)
     c.loop-here.invariant.0
 
 pub loop-here-preserved-then-first-eq0 : goal.loop-here-preserved-then-first-eq0
 loop-here-preserved-then-first-eq0 c =
     again _ _ _ _ _ _ _ _ _
-    (leaf_turn _ _ c.loop-here.free _ c.loop-here.here c.look-parent.result c.release.ensures.free c.loop-here-test.true c.look-parent.ensures c.if-first-eq0.true c.release.ensures.records)
+    (leaf_turn _ _ c.loop-here.free _ c.loop-here.here c.look-parent.result c.release.ensures.head c.loop-here-test.true c.look-parent.ensures c.if-first-eq0.true c.release.ensures.records)
     c.loop-here.invariant
 
 pub look-child-requires : goal.look-child-requires
@@ -31,27 +31,26 @@ look-child-requires c =
     subst (λ (r : Record). (0 < r.first) × (r.first ≤ room (length c.loop-here.slots))) (sym c.look-parent.ensures)
     (alive_child _ _ _ c.loop-here-test.true (λ z. c.if-first-eq0.false (ap (λ (r : Record). r.first) c.look-parent.ensures ∙ z)) c.loop-here.invariant.0)
 
-pub write-requires : goal.write-requires
-write-requires c = alive _ _ _ c.loop-here-test.true c.loop-here.invariant.0
+pub record_mut-requires : goal.record_mut-requires
+record_mut-requires c = alive _ _ _ c.loop-here-test.true c.loop-here.invariant.0
 
-pub write-requires-else-first-eq0 : goal.write-requires-else-first-eq0
-write-requires-else-first-eq0 c =
+pub record_mut-requires-else-first-eq0 : goal.record_mut-requires-else-first-eq0
+record_mut-requires-else-first-eq0 c =
     let h : (0 < c.look-parent.result.first) × (c.look-parent.result.first ≤ room (length c.loop-here.slots)) =
     subst (λ (r : Record). (0 < r.first) × (r.first ≤ room (length c.loop-here.slots))) (sym c.look-parent.ensures)
     (alive_child _ _ _ c.loop-here-test.true (λ z. c.if-first-eq0.false (ap (λ (r : Record). r.first) c.look-parent.ensures ∙ z)) c.loop-here.invariant.0) in
-    let l : length c.write.new.slots ≡ length c.loop-here.slots = ap length c.write.ensures ∙ simp length-set in
-    (h.0, omega arith)
+    (h.0, omega (arith, h.1))
 
 pub loop-here-smaller : goal.loop-here-smaller
 loop-here-smaller c =
     falls _ _ _ _ _ _
-    (child_turn _ _ _ c.loop-here.free c.loop-here.here c.look-parent.result c.look-child.result c.loop-here-test.true c.look-parent.ensures c.if-first-eq0.false c.look-child.ensures c.write.ensures c.write-else-first-eq0.ensures)
+    (child_turn _ _ c.loop-here.free c.loop-here.here c.look-parent.result c.look-child.result c.loop-here-test.true c.look-parent.ensures c.if-first-eq0.false c.look-child.ensures (search rules))
     c.loop-here.invariant.0
 
 pub loop-here-preserved : goal.loop-here-preserved
 loop-here-preserved c =
     again _ _ _ _ _ _ _ _ _
-    (child_turn _ _ _ c.loop-here.free c.loop-here.here c.look-parent.result c.look-child.result c.loop-here-test.true c.look-parent.ensures c.if-first-eq0.false c.look-child.ensures c.write.ensures c.write-else-first-eq0.ensures)
+    (child_turn _ _ c.loop-here.free c.loop-here.here c.look-parent.result c.look-child.result c.loop-here-test.true c.look-parent.ensures c.if-first-eq0.false c.look-child.ensures (search rules))
     c.loop-here.invariant
 
 pub returns : goal.returns
