@@ -12,7 +12,7 @@ use Rattle.chain.proofs.Laws.{chain_push, chain_unique}
 use Rattle.grammar.specs.Tree.{Head}
 use Rattle.records.specs.declared.record.Record.{Record}
 use Rattle.records.specs.declared.record.Mark.TheVariants as mark
-use Rattle.records.specs.Record.{head_of, vacant, at, links}
+use Rattle.records.specs.Record.{head_of, vacant, at, links, relinked}
 use Rattle.records.specs.Siblings.{Siblings, none, sibling, size, count, Holds, Loose, Kept, Moved, siblings_at, weight, Given, Plain}
 use Rattle.records.proofs.AtSlots.{length_links, at_same, at_other}
 use Rattle.records.proofs.Pigeon.{found, size_most}
@@ -159,6 +159,15 @@ turn_child s free here (sibling h d (sibling c e A B) R) js ne nz x =
     subst (λ j. Turned s (t h j) free j (sibling h d (sibling c e A B) R) js) (sym x.0.4.0) done in
     subst (λ i. Turned s (t i (at s i).first) free (at s i).first (sibling h d (sibling c e A B) R) js) (sym x.0.0) there
 
+-- no record is its own child
+child_apart : (s : List Record) (free here : ℕ) (g : Siblings) (js : List ℕ) → here ≢ 0 → (at s here).first ≢ 0 → Loose s free here g js → (at s here).first ≢ here
+child_apart s free here none js ne nz x e = ne x.0
+child_apart s free here (sibling h d none R) js ne nz x e = nz (subst (λ i. (at s i).first ≡ 0) (sym x.0.0) x.0.4)
+child_apart s free here (sibling h d (sibling c y A B) R) js ne nz x e =
+    let z : c ≡ h = sym x.0.4.0 ∙ ap (λ (i : ℕ). (at s i).first) (sym x.0.0) ∙ e ∙ x.0.0 in
+    let u : is c h ≡ 1 = subst (λ v. is c v ≡ 1) z (is_same c) in
+    omega (arith, x.2 c, is_same c)
+
 -- turns one after another
 pub turned_on :
     (s t u : List Record)
@@ -234,33 +243,39 @@ leaf_turn s t free free' here r ef ne er z et g js x =
     (turn_leaf s free here g js ne (ap (λ (y : Record). y.first) (sym er) ∙ z) x)))
 
 pub child_turn :
-    (s t : List Record)
+    (s u t : List Record)
     (free here : ℕ)
     (r c : Record)
     → here ≢ 0
     → r ≡ at s here
     → r.first ≢ 0
     → c ≡ at s r.first
-    → t
-    ≡ set
-    (set s (here - 1) (record { form = r.form; first = c.next; next = r.next; lo = r.lo; hi = r.hi; mark = r.mark }))
-    (r.first - 1)
-    (record { form = c.form; first = c.first; next = here; lo = c.lo; hi = c.hi; mark = c.mark })
+    → u ≡ set s (here - 1) (record { form = (at s here).form; first = c.next; next = (at s here).next; lo = (at s here).lo; hi = (at s here).hi; mark = (at s here).mark })
+    → t ≡ set u (r.first - 1) (relinked (at u r.first) here)
     → (g : Siblings)
     (js : List ℕ)
     → Loose s free here g js
     → Turned s t free r.first g js
-child_turn s t free here r c ne er nz ec et g js x =
+child_turn s u t free here r c ne er nz ec eu et g js x =
     subst (λ y. Turned s y free r.first g js) (sym et)
-    (subst (λ y. Turned s (set (set s (here - 1) (up r y)) (r.first - 1) (along y)) free r.first g js) (sym ec)
-    (subst (λ y. Turned s (set (set s (here - 1) (up y (at s y.first))) (y.first - 1) (along (at s y.first))) free y.first g js) (sym er)
-    (turn_child s free here g js ne (λ z. nz (ap (λ (y : Record). y.first) er ∙ z)) x)))
+    (subst (λ y. Turned s (set u (r.first - 1) (relinked y here)) free r.first g js) (sym below)
+    (subst (λ y. Turned s (set y (r.first - 1) (relinked (at s r.first) here)) free r.first g js) (sym (eu ∙ ap (λ (y : Record). up y) ec))
+    (subst (λ i. Turned s (set (up (at s i)) (i - 1) (relinked (at s i) here)) free i g js) (sym first)
+    (turn_child s free here g js ne nf x))))
   where
-    up : Record → Record → Record
-    up r c = record { form = r.form; first = c.next; next = r.next; lo = r.lo; hi = r.hi; mark = r.mark }
+    up : Record → List Record
+    up c = set s (here - 1) (record { form = (at s here).form; first = c.next; next = (at s here).next; lo = (at s here).lo; hi = (at s here).hi; mark = (at s here).mark })
 
-    along : Record → Record
-    along c = record { form = c.form; first = c.first; next = here; lo = c.lo; hi = c.hi; mark = c.mark }
+    first : r.first ≡ (at s here).first
+    first = ap (λ (y : Record). y.first) er
+
+    nf : (at s here).first ≢ 0
+    nf z = nz (first ∙ z)
+
+    below : at u r.first ≡ at s r.first
+    below =
+        ap (λ (v : List Record). at v r.first) eu
+        ∙ at_other s here r.first _ (omega (arith, ne)) (omega (arith, nz)) (λ z. child_apart s free here g js ne nf x (sym first ∙ z))
 
 -- the measure is the weight of the forest
 pub weighed : (s : List Record) (free here : ℕ) (g : Siblings) (js : List ℕ) → Loose s free here g js → weight (siblings_at (room (length s)) s here) ≡ weight g

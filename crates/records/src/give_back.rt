@@ -21,14 +21,8 @@ pub fn give_back_tree(slots: &mut [Record], free: &mut u16, root: u16)
             here = parent.next;
         } else {
             let child = look(slots, first);
-            *chain::record_mut(slots, here) = Record {
-                first: child.next,
-                ..parent
-            };
-            *chain::record_mut(slots, first) = Record {
-                next: here,
-                ..child
-            };
+            chain::record_mut(slots, here).first = child.next;
+            chain::link_to(slots, first, here);
             here = first;
         }
     }

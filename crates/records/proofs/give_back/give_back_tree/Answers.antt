@@ -1,6 +1,7 @@
 use Rattle.std.proofs.Common.{rules, ◌≡◌, ◌<◌, ◌≤◌, length, sym, ap, ◌∙◌, subst, arith, length-set}
 use Rattle.chain.specs.Chain.{room}
 use Rattle.records.specs.declared.record.Record.{Record}
+use Rattle.records.specs.Record.{vacant}
 use Rattle.records.proofs.Steps.{alive, alive_child, head_off, leaf_turn, child_turn, falls, again, ended, Left}
 use Rattle.records.proofs.give_back.give_back_tree.Goals as goal
 
@@ -34,23 +35,23 @@ look-child-requires c =
 pub record_mut-requires : goal.record_mut-requires
 record_mut-requires c = alive _ _ _ c.loop-here-test.true c.loop-here.invariant.0
 
-pub record_mut-requires-else-first-eq0 : goal.record_mut-requires-else-first-eq0
-record_mut-requires-else-first-eq0 c =
+pub link_to-requires : goal.link_to-requires
+link_to-requires c =
     let h : (0 < c.look-parent.result.first) × (c.look-parent.result.first ≤ room (length c.loop-here.slots)) =
     subst (λ (r : Record). (0 < r.first) × (r.first ≤ room (length c.loop-here.slots))) (sym c.look-parent.ensures)
     (alive_child _ _ _ c.loop-here-test.true (λ z. c.if-first-eq0.false (ap (λ (r : Record). r.first) c.look-parent.ensures ∙ z)) c.loop-here.invariant.0) in
-    (h.0, omega (arith, h.1))
+    record { inside = (h.0, omega (arith, h.1)) }
 
 pub loop-here-smaller : goal.loop-here-smaller
 loop-here-smaller c =
     falls _ _ _ _ _ _
-    (child_turn _ _ c.loop-here.free c.loop-here.here c.look-parent.result c.look-child.result c.loop-here-test.true c.look-parent.ensures c.if-first-eq0.false c.look-child.ensures (search rules))
+    (child_turn _ _ _ c.loop-here.free c.loop-here.here c.look-parent.result c.look-child.result c.loop-here-test.true c.look-parent.ensures c.if-first-eq0.false c.look-child.ensures (search rules) (c.link_to.ensures.records (vacant 0)))
     c.loop-here.invariant.0
 
 pub loop-here-preserved : goal.loop-here-preserved
 loop-here-preserved c =
     again _ _ _ _ _ _ _ _ _
-    (child_turn _ _ c.loop-here.free c.loop-here.here c.look-parent.result c.look-child.result c.loop-here-test.true c.look-parent.ensures c.if-first-eq0.false c.look-child.ensures (search rules))
+    (child_turn _ _ _ c.loop-here.free c.loop-here.here c.look-parent.result c.look-child.result c.loop-here-test.true c.look-parent.ensures c.if-first-eq0.false c.look-child.ensures (search rules) (c.link_to.ensures.records (vacant 0)))
     c.loop-here.invariant
 
 pub returns : goal.returns
