@@ -34,15 +34,22 @@ pub struct Children {
 impl Children {
     pub const NONE: Children = Children { first: 0, last: 0 };
 
+    /// The row that has one tree.
+    pub fn one(slot: u16) -> Children
+        ensures { result ≡ record { first = slot; last = slot } }
+    {
+        Children {
+            first: slot,
+            last: slot,
+        }
+    }
+
     /// The row with the tree at `child` behind it; that tree was put up after the row.
     pub fn push(self, slots: &mut [Record], child: u16) -> Children
         ensures row { (s t : List Record) (from free rest : ℕ) (us : Forest) (v : Tree) → Stands s from t free self.first self.last us → Stands t free slots.old rest child child (v ▸ nil) → Stands s from slots.new rest result.first result.last (us ⊕ (v ▸ nil)) }
     {
         if self.last == 0 {
-            return Children {
-                first: child,
-                last: child,
-            };
+            return Children::one(child);
         }
         // No row ends at what is no slot.
         if self.last > chain::last_slot(slots) {

@@ -5,16 +5,6 @@ use Rattle.records.specs.Record.{vacant}
 use Rattle.records.proofs.Steps.{alive, alive_child, head_off, leaf_turn, child_turn, falls, again, ended, Left}
 use Rattle.records.proofs.give_back.give_back_tree.Goals as goal
 
-pub look-parent-requires : goal.look-parent-requires
-look-parent-requires c = alive _ _ _ c.loop-here-test.true c.loop-here.invariant.0
-
-pub release-requires : goal.release-requires
-release-requires c =
-    record {
-      inside = alive _ _ _ c.loop-here-test.true c.loop-here.invariant.0;
-      off = head_off _ _ _ c.loop-here-test.true c.loop-here.invariant.0;
-    }
-
 pub loop-here-smaller-then-first-eq0 : goal.loop-here-smaller-then-first-eq0
 loop-here-smaller-then-first-eq0 c =
     falls _ _ _ _ _ _
@@ -31,9 +21,6 @@ pub look-child-requires : goal.look-child-requires
 look-child-requires c =
     subst (λ (r : Record). (0 < r.first) × (r.first ≤ room (length c.loop-here.slots))) (sym c.look-parent.ensures)
     (alive_child _ _ _ c.loop-here-test.true (λ z. c.if-first-eq0.false (ap (λ (r : Record). r.first) c.look-parent.ensures ∙ z)) c.loop-here.invariant.0)
-
-pub record_mut-requires : goal.record_mut-requires
-record_mut-requires c = alive _ _ _ c.loop-here-test.true c.loop-here.invariant.0
 
 pub link_to-requires : goal.link_to-requires
 link_to-requires c =
