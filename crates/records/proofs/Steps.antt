@@ -196,19 +196,22 @@ alive s free here ne h = ∥∥₁_elim h (×_prop le_prop le_prop) (λ x. go x.
 pub alive_child :
     (s : List Record)
     (free here : ℕ)
+    (r : Record)
     → here ≢ 0
-    → (at s here).first ≢ 0
+    → r ≡ at s here
+    → r.first ≢ 0
     → ∥ ((f : Siblings) × (ks : List ℕ) × Loose s free here f ks) ∥₁
-    → (0 < (at s here).first) × ((at s here).first ≤ room (length s))
-alive_child s free here ne nz h = ∥∥₁_elim h (×_prop le_prop le_prop) (λ x. go x.0 x.2.0)
+    → (0 < r.first) × (r.first ≤ room (length s))
+alive_child s free here r ne e nz h = ∥∥₁_elim h (×_prop le_prop le_prop) (λ x. go x.0 x.2.0)
   where
     below : (i : ℕ) → i ≢ 0 → (f : Siblings) → Holds s i f → (0 < i) × (i ≤ room (length s))
     below i n none y = absurd (n y)
     below i n (sibling k d kids rest) y = (omega (arith, y.0, y.1), omega (arith, y.0, y.2))
 
-    go : (f : Siblings) → Holds s here f → (0 < (at s here).first) × ((at s here).first ≤ room (length s))
+    go : (f : Siblings) → Holds s here f → (0 < r.first) × (r.first ≤ room (length s))
     go none y = absurd (ne y)
-    go (sibling k d kids rest) y = below (at s here).first nz kids (subst (λ i. Holds s (at s i).first kids) (sym y.0) y.4)
+    go (sibling k d kids rest) y =
+        below r.first nz kids (subst (λ i. Holds s i kids) (sym (ap (λ (q : Record). q.first) e)) (subst (λ i. Holds s (at s i).first kids) (sym y.0) y.4))
 
 -- the head is not on the free chain
 pub head_off : (s : List Record) (free here : ℕ) → here ≢ 0 → ∥ ((f : Siblings) × (ks : List ℕ) × Loose s free here f ks) ∥₁ → Off (links s) free here
@@ -222,6 +225,10 @@ head_off s free here ne h js c = ∥∥₁_elim h (ℕ_set _ _) (λ x. go x.0 x.
         let a : times here js ≡ times here ks = ap (times here) (sym e) in
         omega (arith, x.2 here)
 
+-- a turn: from the siblings at here to those at here'
+abbrev pub Turns : List Record → ℕ → ℕ → List Record → ℕ → ℕ → Type 0
+Turns s free here t free' here' = (g : Siblings) (js : List ℕ) → Loose s free here g js → Turned s t free' here' g js
+
 -- a turn as the code has it
 pub leaf_turn :
     (s t : List Record)
@@ -232,10 +239,7 @@ pub leaf_turn :
     → r ≡ at s here
     → r.first ≡ 0
     → t ≡ set s (here - 1) (vacant free)
-    → (g : Siblings)
-    (js : List ℕ)
-    → Loose s free here g js
-    → Turned s t free' r.next g js
+    → Turns s free here t free' r.next
 leaf_turn s t free free' here r ef ne er z et g js x =
     subst (λ f. Turned s t f r.next g js) (sym ef)
     (subst (λ u. Turned s u here r.next g js) (sym et)
@@ -252,10 +256,7 @@ pub child_turn :
     → c ≡ at s r.first
     → u ≡ set s (here - 1) (record { form = (at s here).form; first = c.next; next = (at s here).next; lo = (at s here).lo; hi = (at s here).hi; mark = (at s here).mark })
     → t ≡ set u (r.first - 1) (relinked (at u r.first) here)
-    → (g : Siblings)
-    (js : List ℕ)
-    → Loose s free here g js
-    → Turned s t free r.first g js
+    → Turns s free here t free r.first
 child_turn s u t free here r c ne er nz ec eu et g js x =
     subst (λ y. Turned s y free r.first g js) (sym et)
     (subst (λ y. Turned s (set u (r.first - 1) (relinked y here)) free r.first g js) (sym below)
@@ -286,7 +287,7 @@ weighed s free here g js x =
 pub falls :
     (s t : List Record)
     (free free' here here' : ℕ)
-    → ((g : Siblings) (js : List ℕ) → Loose s free here g js → Turned s t free' here' g js)
+    → Turns s free here t free' here'
     → ∥ ((f : Siblings) × (ks : List ℕ) × Loose s free here f ks) ∥₁
     → weight (siblings_at (room (length t)) t here') < weight (siblings_at (room (length s)) s here)
 falls s t free free' here here' turn h =
@@ -304,7 +305,7 @@ Left s t free here f ks =
 pub again :
     (s₀ s t : List Record)
     (free₀ here₀ free free' here here' : ℕ)
-    → ((g : Siblings) (js : List ℕ) → Loose s free here g js → Turned s t free' here' g js)
+    → Turns s free here t free' here'
     → ∥ ((f : Siblings) × (ks : List ℕ) × Loose s free here f ks) ∥₁
     × ((f : Siblings) (ks : List ℕ) → Loose s₀ free₀ here₀ f ks → Left s₀ s free here f ks)
     → ∥ ((f : Siblings) × (ks : List ℕ) × Loose t free' here' f ks) ∥₁
