@@ -1,34 +1,17 @@
 -- The layout of a new store: all records unused.
-use Rattle.std.proofs.Common.{◌≡◌, ℕ, zero, suc, ◌+◌, ◌<◌, ◌≤◌, true, false, List, [], length, get_or, replicate, None, sum_by, Option, sym, refl, ap, ◌∙◌, subst, ⊎_elim, arith}
+use Rattle.std.proofs.Common.{◌≡◌, ℕ, zero, suc, ◌+◌, ◌<◌, true, false, List, [], length, get_or, replicate, None, sum_by, Option, sym, refl, ap, ◌∙◌, subst, arith}
 use Rattle.std.proofs.lemmas.List.{length-map, length-replicate, get_or-replicate}
 use Rattle.std.proofs.lemmas.List.Sums.{sum_by-cons}
 use Rattle.comments.specs.declared.store.Side.{Side}
 use Rattle.chain.specs.Chain.{room, Chain, times, slots_from}
-use Rattle.chain.proofs.Counting.{is_cases}
 use Rattle.chain.proofs.Laws.{chain_once}
+use Rattle.chain.proofs.Runs.{length_from, times_from}
 use Rattle.spliced.specs.declared.heads.NoteList.{NoteList}
 use Rattle.spliced.specs.Linked.{links}
 use Rattle.spliced.specs.Notes.{Note}
 use Rattle.spliced.specs.Heads.{Head, list_at, key, listed}
 use Rattle.spliced.specs.Layout.{Fit, used, Laid}
 use Rattle.spliced.proofs.Meaning.{means}
-
--- a run of slots has each of them once, and is as long as it says
-length_slots : (j n : ℕ) → length (slots_from j n) ≡ n
-length_slots j zero = refl
-length_slots j (suc n) = omega (arith, length_slots (suc j) n)
-
-before_slots : (k j n : ℕ) → k < j → times k (slots_from j n) ≡ 0
-before_slots k j zero l = refl
-before_slots k j (suc n) l = ⊎_elim (λ e. absurd (omega (arith, e.0))) (λ e. omega (arith, e.1, before_slots k (suc j) n (omega arith))) (is_cases k j)
-
-times_slots : (k j n : ℕ) → j ≤ k → k < j + n → times k (slots_from j n) ≡ 1
-times_slots k j zero p q = absurd (omega arith)
-times_slots k j (suc n) p q =
-    ⊎_elim
-    (λ e. omega (arith, e.1, before_slots k (suc j) n (omega (arith, e.0))))
-    (λ e. omega (arith, e.1, times_slots k (suc j) n (let d : k ≡ j → ⊥ = e.0 in omega arith) (omega arith)))
-    (is_cases k j)
 
 -- empty lists have nothing
 sum_empty : (f : List ℕ → ℕ) (n : ℕ) → f [] ≡ 0 → sum_by f (replicate n []) ≡ 0
@@ -46,9 +29,9 @@ fresh_laid notes heads fn fh n k en ek cn ch none = (
     notes = cn;
     apart = λ j. omega (arith, chain_once (links notes) fn (slots_from 1 (room n)) cn j, sum_empty (times j) (room k) refl);
     heads = ch;
-    once = λ i q. omega (arith, times_slots (i + 1) 1 (room k) (omega arith) (omega (arith, long)), ap used (none i (omega (arith, long))));
+    once = λ i q. omega (arith, times_from (i + 1) 1 (room k) (omega arith) (omega (arith, long)), ap used (none i (omega (arith, long))));
     keys = λ i j side o p q u v. let z : ◌≡◌ false true = sym (ap (key side o) (none i (omega (arith, long)))) ∙ u in let w : ◌≡◌ {A = ℕ} 0 1 = cc in absurd (omega arith);
-    counted = omega (arith, length_slots 1 (room n), ap room (en ∙ sym (length-map notes (λ (x : Note). x.next))));
+    counted = omega (arith, length_from 1 (room n), ap room (en ∙ sym (length-map notes (λ (x : Note). x.next))));
     total = omega (arith, sum_empty length (room k) refl);
   },
 )
