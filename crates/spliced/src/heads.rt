@@ -67,7 +67,9 @@ impl<'a> Heads<'a> {
         ensures finds { MatchOption result (Nowhere self.now.slots.now spot.side spot.offset) (λ f. At self.now.slots.now spot.side spot.offset f.head f.list) }
     {
         for (head, record) in (1..=self.high).zip(self.slots.iter()) {
-            if let Some(list) = record.content && list.spot == spot {
+            if let Some(list) = record.content
+                && list.spot == spot
+            {
                 return Some(Found { head, list });
             }
         }

@@ -4,15 +4,9 @@ use Rattle.spliced.proofs.Turns.{has_room, next_note, next_head, last_written, t
 use Rattle.spliced.proofs.store.meaning.SplicedStore.add.Goals.{After-hold, After-draw}
 use Rattle.spliced.proofs.store.meaning.SplicedStore.add.Goals as goal
 
-pub draw-note-requires : goal.draw-note-requires
-draw-note-requires c = next_note _ _ _ _ _ (has_room _ _ _ _ c.spare.ensures c.if-spare-eq0.false) c.args.self.now.laid
-
 pub join-requires : goal.join-requires
 join-requires c =
     last_written _ _ _ _ _ _ _ _ _ _ _ _ c.in-Some.ensures.finds c.draw-note.ensures.records c.args.self.now.laid
-
-pub draw-requires : goal.draw-requires
-draw-requires c = record { slot = next_head _ _ _ _ _ (has_room _ _ _ _ c.spare.ensures c.if-spare-eq0.false) c.args.self.now.laid }
 
 grown : (c : After-hold) → Added c.args.self.now c.join.new.self c.hold.new.self c.args.spot.side c.args.spot.offset c.args.comment
 grown c =
