@@ -17,7 +17,7 @@ impl<'a> Store for Spliced<'a> {
 
     ghost vacant = { spare };
 
-    #[tactic(auto, using(crate::proofs::Turns::next_note, crate::proofs::Turns::next_head, crate::proofs::Turns::has_room))]
+    #[tactic(auto, using(crate::proofs::Turns::next_note, crate::proofs::Turns::next_head, crate::proofs::Turns::has_room, crate::proofs::Turns::beyond_written))]
     fn add(&mut self, spot: Spot, comment: u32) -> Result<(), Refusal>
         ensures fills { Fills (lists_in self.old) (lists_in self.new) (spare self.old) (spare self.new) spot.side spot.offset comment result }
         ensures same { OnErr result (self.new ≡ self.old) }

@@ -29,9 +29,3 @@ returns-in-Some-clause-fills c = (less_room _ _ _ _ _ _ (λ z. c.if-spare-eq0.fa
 
 pub returns-in-None-clause-fills : goal.returns-in-None-clause-fills
 returns-in-None-clause-fills c = (less_room _ _ _ _ _ _ (λ z. c.if-spare-eq0.false (c.spare.ensures ∙ z)) refl (search rules) (search rules), (begun c.before).1)
-
-pub returns-in-None-clause-beyond : goal.returns-in-None-clause-beyond
-returns-in-None-clause-beyond c = (
-  beyond_written _ _ _ _ (taken_slot _ _ _ _ _ _ (has_room _ _ _ _ c.spare.ensures c.if-spare-eq0.false) c.draw-note.ensures.slot c.args.self.now.laid) c.draw-note.ensures.records,
-  beyond_written _ _ _ _ (next_head _ _ _ _ _ (has_room _ _ _ _ c.spare.ensures c.if-spare-eq0.false) c.args.self.now.laid) c.draw.ensures.records,
-)
