@@ -18,7 +18,7 @@ sum_empty : (f : List ℕ → ℕ) (n : ℕ) → f [] ≡ 0 → sum_by f (replic
 sum_empty f zero z = refl
 sum_empty f (suc n) z = omega (arith, sum_by-cons f [] (replicate n []), sum_empty f n z, z)
 
-pub fresh_laid : (notes : List Note) (heads : List Head) (fn fh n k : ℕ) → n ≡ length notes → k ≡ length heads → Chain (links notes) fn (slots_from 1 (room n)) → Chain (links heads) fh (slots_from 1 (room k)) → ((i : ℕ) → i < room k → list_at heads i ≡ None) → Laid notes heads fn fh 0
+fresh_laid : (notes : List Note) (heads : List Head) (fn fh n k : ℕ) → n ≡ length notes → k ≡ length heads → Chain (links notes) fn (slots_from 1 (room n)) → Chain (links heads) fh (slots_from 1 (room k)) → ((i : ℕ) → i < room k → list_at heads i ≡ None) → Laid notes heads fn fh 0
 fresh_laid notes heads fn fh n k en ek cn ch none = (
   replicate (room k) [],
   slots_from 1 (room n),
@@ -40,6 +40,11 @@ fresh_laid notes heads fn fh n k en ek cn ch none = (
     long = ap room (ek ∙ sym (length-map heads (λ (h : Head). h.next)))
 
 -- and it means no comments
-pub fresh_empty : (notes : List Note) (heads : List Head) (fn fh k : ℕ) → k ≡ length heads → ((i : ℕ) → i < room k → list_at heads i ≡ None) → Laid notes heads fn fh 0 → (side : Side) (j : ℕ) → listed notes heads side j ≡ []
+fresh_empty : (notes : List Note) (heads : List Head) (fn fh k : ℕ) → k ≡ length heads → ((i : ℕ) → i < room k → list_at heads i ≡ None) → Laid notes heads fn fh 0 → (side : Side) (j : ℕ) → listed notes heads side j ≡ []
 fresh_empty notes heads fn fh k ek none p side j =
     (means notes heads fn fh 0 p.0 p.1 p.2 p.3).missing side j (λ i q. ap (key side j) (none i (omega (arith, ap room ek))))
+
+pub fresh : (notes : List Note) (heads : List Head) (fn fh n k : ℕ) → n ≡ length notes → k ≡ length heads → Chain (links notes) fn (slots_from 1 (room n)) → Chain (links heads) fh (slots_from 1 (room k)) → ((i : ℕ) → i < room k → list_at heads i ≡ None) → Laid notes heads fn fh 0 × ((side : Side) (j : ℕ) → listed notes heads side j ≡ [])
+fresh notes heads fn fh n k en ek cn ch none =
+    let p = fresh_laid notes heads fn fh n k en ek cn ch none in
+    (p, fresh_empty notes heads fn fh k ek none p)
