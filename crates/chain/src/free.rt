@@ -1,5 +1,5 @@
 // The chain of unused records: making it, drawing from it, giving back to it, and what a walk along any chain needs.
-// Records and head stay two parameters: methods of a struct that borrows the records would each owe that it still has those.
+// Records and head stay two parameters: a struct of both saves its three users three lines each, and lengthens every path.
 ghost use Rattle.std.specs.Prelude.{◌≡◌, ℕ, ◌-◌, ◌<◌, List, ◌∷◌, map, length, MatchOption, slice_index_or, slice_set};
 ghost use Rattle.std.specs.Borrow.{sem};
 ghost use Rattle.chain.specs.Chain.{LendsRecord, room, Slot, link_at, Chain, Off, Drawn, slots_from, after, relinked, Beyond};

@@ -4,7 +4,7 @@ use Rattle.chain.specs.Chain.{Slot, link_at}
 use Rattle.grammar.specs.Tree.{Head, Tree, Forest, node, nil, ◌▸◌, ◌⊕◌, size, sizes}
 use Rattle.records.specs.declared.record.Record.{Record}
 use Rattle.records.specs.declared.record.Mark.TheVariants as mark
-use Rattle.records.specs.Record.{head_of, at, links}
+use Rattle.records.specs.Record.{head_of, links}
 use Rattle.records.specs.Siblings.{forest}
 use Rattle.records.specs.Siblings as siblings
 use Rattle.records.specs.Building.{Row, Stands}

@@ -6,8 +6,8 @@ use crate::record::Record;
 use crate::slots::look;
 
 /// Gives every record of the siblings at `root`, and of all below them, to the free chain. A first child is turned up before
-/// its parent until a record has none, so no stack is needed: what is left is always one chain of siblings. It is no iterator: each step
-/// changes the chain that it walks.
+/// its parent until a record has none, so no stack is needed: what is left is always one chain of siblings. It is no
+/// iterator: each step changes the chain that it walks.
 #[tactic(auto, using(crate::proofs::Steps::alive, crate::proofs::Steps::head_off))]
 pub fn give_back_tree(slots: &mut [Record], free: &mut u16, root: u16)
     requires { ∥ ((f : Siblings) × (ks : List ℕ) × Loose slots.old free.old root f ks) ∥₁ }

@@ -1,5 +1,4 @@
-// One record at a time: reading and writing at a slot, drawing from the free chain, giving back to it. Records and head are two
-// parameters here, and one `Store` above: methods of a struct that borrows the records would each owe that it still has those.
+// The record of a slot, read and marked, and all records made free.
 ghost use Rattle.std.specs.Prelude.{◌≡◌, ℕ, ◌-◌, ◌<◌, ◌≤◌, List, length, MatchOption, slice_set};
 ghost use Rattle.chain.specs.Chain.{room, Slot, Chain, Off, slots_from, Beyond};
 ghost use Rattle.records.specs.Record.{at, links, vacant, stamped};
@@ -23,6 +22,7 @@ pub fn stamp(slots: &mut [Record], slot: u16, mark: Mark)
 }
 
 /// Makes every record free, all of them on one chain, and answers where that chain begins.
+// Not one function in `chain`: tried, and `fill` of any `T: Copy` did not prove that its `clone` cannot fail.
 pub fn make(slots: &mut [Record]) -> u16
     ensures chain { Chain (links slots.new) result (slots_from 1 (room (length slots.old))) }
     ensures records { (k : ℕ) → Slot (length slots.old) k → at slots.new k ≡ vacant (at slots.new k).next }

@@ -14,6 +14,7 @@ use crate::record::{Head, Mark, Record};
 use crate::{build, slots};
 
 /// The records, and where the chain of the free ones begins.
+// Not one struct with `Notes` and `Heads`: that saves three lines in each, and adds a field to the path in every clause.
 #[derive(Drop)]
 pub struct Store<'a> {
     pub slots: &'a mut [Record],

@@ -79,6 +79,7 @@ impl<'a> Store for Spliced<'a> {
         self.heads.give_back(source.head);
     }
 
+    // Tried: `map_or(0, |found| ..)` did not prove; its closure's result is unknown unless it has a clause of its own.
     fn count(&self, spot: Spot) -> usize {
         match self.heads.find(spot) {
             Some(found) => self.notes.count(found.list.first),

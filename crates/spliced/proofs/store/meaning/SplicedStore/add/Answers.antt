@@ -1,6 +1,6 @@
 use Rattle.std.proofs.Common.{rules, refl, ◌∙◌}
 use Rattle.spliced.proofs.Asking.{laid_from}
-use Rattle.spliced.proofs.Turns.{has_room, next_note, next_head, last_written, taken_slot, beyond_written, grow, begin, less_room, Added}
+use Rattle.spliced.proofs.Turns.{has_room, last_written, grow, begin, less_room, Added}
 use Rattle.spliced.proofs.store.meaning.SplicedStore.add.Goals.{After-hold, After-draw}
 use Rattle.spliced.proofs.store.meaning.SplicedStore.add.Goals as goal
 
