@@ -1,4 +1,5 @@
 pub mod Counting
 pub mod Laws
 pub mod Records
+pub mod Runs
 pub mod Walks

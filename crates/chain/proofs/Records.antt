@@ -1,6 +1,6 @@
 -- From records to their links: what is read and what is written at a slot.
 use Rattle.std.proofs.Common.{◌≡◌, ℕ, ◌+◌, ◌-◌, ◌<◌, ◌≤◌, ltb, cond, ◌≢◌, ⊎_elim, List, [], ◌∷◌, map, length, get_or, drop, set, sym, ap, ◌∙◌, subst, arith, length-set}
-use Rattle.std.proofs.lemmas.List.{length-map, get_or-map, map-set, get_or-set_same, get_or-set_other, drop-set-lt}
+use Rattle.std.proofs.lemmas.List.{length-map, get_or-map, map-set, get_or-set_same, get_or-set_other, set-set, drop-set-lt}
 use Rattle.std.proofs.lemmas.Bool.{cases_eq, cond-true, lt-ltb}
 use Rattle.chain.specs.Chain.{room, Slot, link_at, Chain, times, after, relinked, Beyond}
 use Rattle.chain.proofs.Laws.{chain_push}
@@ -42,6 +42,27 @@ given_back f g reads [] t h k ks sl off e c = absurd (omega (arith, sl.0, sl.1))
 given_back f g reads (x ∷ s) t h k ks sl off e c =
     subst (λ (m : List ℕ). Chain m k (k ∷ ks)) (sym (ap (map f) (e x) ∙ links_relinked f g reads (x ∷ s) k h x))
     (chain_push (map f (x ∷ s)) h k ks (slot_links f (x ∷ s) k sl) off c)
+
+-- a record that was linked anew, then written, then linked anew again
+pub released :
+    {X : Type 0}
+    (g : X → ℕ → X)
+    (s t u v : List X)
+    (k h : ℕ)
+    (x : X)
+    → Slot (length s) k
+    → ((d : X) → t ≡ relinked g s k h d)
+    → u ≡ set t (k - 1) x
+    → ((d : X) → v ≡ relinked g u k h d)
+    → v ≡ set s (k - 1) (g x h)
+released {X} g s t u v k h x sl et eu ev =
+    ev x
+    ∙ ap (λ (y : X). set u (k - 1) (g y h)) (ap (λ (w : List X). get_or w (k - 1) x) again ∙ get_or-set_same s (k - 1) x x (omega (arith, sl.0, sl.1)))
+    ∙ ap (λ (w : List X). set w (k - 1) (g x h)) again
+    ∙ set-set s (k - 1) x (g x h)
+  where
+    again : u ≡ set s (k - 1) x
+    again = eu ∙ ap (λ (w : List X). set w (k - 1) x) (et x) ∙ set-set s (k - 1) (g (get_or s (k - 1) x) h) x
 
 -- writes at slots leave the records that have none
 pub beyond_set : {X : Type 0} (s : List X) (k : ℕ) (x : X) → Slot (length s) k → Beyond s (set s (k - 1) x)

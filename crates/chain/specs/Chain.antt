@@ -15,7 +15,7 @@
 --   SameLoan a b         the records b are those that were lent as a
 --
 -- Assumes nothing.
-use Rattle.std.specs.Borrow.{MutBor}
+use Rattle.std.specs.Borrow.{Lends, MutBor, Fml, Array, RattleType}
 use Rattle.std.specs.Prelude.{◌≡◌, ℕ, zero, suc, ◌+◌, ◌-◌, ◌<◌, ◌≤◌, min, cond, List, [], ◌∷◌, length, drop, Some, None, Option, ◌==◌, nat_lt, slice_index, slice_index_or, slice_set}
 
 abbrev pub room : ℕ → ℕ
@@ -61,3 +61,7 @@ Beyond s t = (length t ≡ length s) × (drop (room (length s)) t ≡ drop (room
 
 abbrev pub SameLoan : {X : Type 0} → MutBor X → MutBor X → Type 0
 SameLoan a b = b.ghost_name ≡ a.ghost_name
+
+-- what is last written through r ends up at the slot k, and the other records stay
+abbrev pub LendsRecord : (T : RattleType) → MutBor (List T.Denot) → ℕ → MutBor T.Denot → Fml
+LendsRecord T s k r = Lends (Array T 0) T s r (slice_set s.now (k - 1))

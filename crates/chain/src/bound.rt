@@ -1,4 +1,5 @@
 // What a record needs in order to stand on a chain.
+// The trait and its laws serve both record types. One generic struct would put `content` into every path.
 ghost use Rattle.std.specs.Prelude.{◌≡◌, ℕ};
 
 /// A record with a link. `link` is the slot that it leads to, `linked` the record with another link, and `rest` all that

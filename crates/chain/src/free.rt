@@ -1,7 +1,8 @@
 // The chain of unused records: making it, drawing from it, giving back to it, and what a walk along any chain needs.
-// Records and head stay two parameters: methods of a struct that borrows the records would each owe that it still has those.
-ghost use Rattle.std.specs.Prelude.{◌≡◌, ℕ, ◌-◌, ◌<◌, List, ◌∷◌, map, length, MatchOption, slice_index_or};
-ghost use Rattle.chain.specs.Chain.{room, Slot, link_at, Chain, Off, Drawn, slots_from, after, relinked, Beyond};
+// Records and head stay two parameters: a struct of both saves its three users three lines each, and lengthens every path.
+ghost use Rattle.std.specs.Prelude.{◌≡◌, ℕ, ◌-◌, ◌<◌, List, ◌∷◌, map, length, MatchOption, slice_index_or, slice_set};
+ghost use Rattle.std.specs.Borrow.{sem};
+ghost use Rattle.chain.specs.Chain.{LendsRecord, room, Slot, link_at, Chain, Off, Drawn, slots_from, after, relinked, Beyond};
 ghost use Rattle.chain.specs.Laws.{ChainLaws};
 
 use crate::bound::Link;
@@ -34,6 +35,15 @@ pub fn record_at<T>(slots: &[T], slot: u16) -> Option<&T>
     slots.get(usize::from(slot).checked_sub(1)?)
 }
 
+/// The record of a slot, to be written.
+pub fn record_mut<T>(slots: &mut [T], slot: u16) -> &mut T
+    requires { Slot (length slots.old) slot }
+    ensures* writes_back { sem 𝓛 (LendsRecord T.row slots.entry slot result) }
+    ensures value { (d : T) → result.now ≡ slice_index_or slots.old (slot - 1) d }
+{
+    &mut slots[usize::from(slot) - 1]
+}
+
 /// The link of a slot's record; none where the number is no slot.
 pub fn next_of<T: Link>(slots: &[T], slot: u16) -> Option<u16>
     ensures { MatchOption result (Slot (length slots.now) slot → ⊥) (λ next. Slot (length slots.now) slot × (next ≡ link_at (map T.link slots.now) slot)) }
@@ -57,7 +67,7 @@ pub fn link_to<T: Link>(slots: &mut [T], slot: u16, next: u16)
     requires inside { Slot (length slots.old) slot }
     ensures records { (d : T) → slots.new ≡ relinked T.linked slots.old slot next d }
 {
-    slots[slot as usize - 1].set_next(next);
+    record_mut(slots, slot).set_next(next);
 }
 
 /// Puts a slot first on the chain that begins at `head`. That is lawful for a slot that is not on the chain: given back
@@ -71,6 +81,30 @@ pub fn give_back<T: Link>(slots: &mut [T], head: &mut u16, slot: u16)
 {
     link_to(slots, slot, *head);
     *head = slot;
+}
+
+/// Takes the first slot off the chain that begins at `head`, and writes its record; none comes from an empty chain.
+pub fn take<T: Link + Copy>(slots: &mut [T], head: &mut u16, content: T) -> Option<u16>
+    ensures { MatchOption result
+        ((Slot (length slots.old) head.old → ⊥) × (head.new ≡ head.old) × (slots.new ≡ slots.old))
+        (λ k. (k ≡ head.old) × Slot (length slots.old) k × (head.new ≡ link_at (map T.link slots.old) k) × (slots.new ≡ slice_set slots.old (k - 1) content)) }
+{
+    let slot = draw(slots, head)?;
+    *record_mut(slots, slot) = content;
+    Some(slot)
+}
+
+/// Gives a slot back, and leaves its record `blank` but for the link.
+pub fn release<T: Link + Copy>(slots: &mut [T], head: &mut u16, slot: u16, blank: T)
+    requires inside { Slot (length slots.old) slot }
+    requires off { Off (map T.link slots.old) head.old slot }
+    ensures head { head.new ≡ slot }
+    ensures records { slots.new ≡ slice_set slots.old (slot - 1) (T.linked blank head.old) }
+{
+    let next = *head;
+    give_back(slots, head, slot);
+    *record_mut(slots, slot) = blank;
+    link_to(slots, slot, next);
 }
 
 /// How many slots the chain that begins at `head` has. The walk takes no more steps than there are slots, so it ends whatever

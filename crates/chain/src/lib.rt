@@ -6,4 +6,7 @@ mod bound;
 mod free;
 
 pub use bound::Link;
-pub use free::{chain_laws, count, draw, give_back, last_slot, link_to, make, next_of, record_at};
+pub use free::{
+    chain_laws, count, draw, give_back, last_slot, link_to, make, next_of, record_at, record_mut,
+    release, take,
+};

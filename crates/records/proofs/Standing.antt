@@ -1,16 +1,16 @@
 -- Rows that stand wherever there are records enough: nothing is asked of whoever puts them up.
 use Rattle.std.proofs.Common.{◌≡◌, ℕ, ◌+◌, ◌-◌, ◌<◌, ◌≤◌, ◌≢◌, List, length, set, Some, None, Option, unwrap_or, sym, ap, ◌∙◌, subst, arith, MatchOption}
-use Rattle.chain.specs.Chain.{Slot}
-use Rattle.chain.proofs.Laws.{chain_once}
+use Rattle.chain.specs.Chain.{Slot, link_at}
 use Rattle.grammar.specs.Tree.{Head, Tree, Forest, node, nil, ◌▸◌, ◌⊕◌, size, sizes}
 use Rattle.records.specs.declared.record.Record.{Record}
 use Rattle.records.specs.declared.record.Mark.TheVariants as mark
-use Rattle.records.specs.Record.{head_of, at, links}
+use Rattle.records.specs.Record.{head_of, links}
 use Rattle.records.specs.Siblings.{forest}
 use Rattle.records.specs.Siblings as siblings
 use Rattle.records.specs.Building.{Row, Stands}
+use Rattle.records.proofs.AtSlots.{link_of_lem}
 use Rattle.records.proofs.Measures.{size_forest}
-use Rattle.records.proofs.Rows.{row_none, row_room, row_last, row_nested}
+use Rattle.records.proofs.Rows.{row_room, row_last, row_nested}
 
 pub sizes_nested : (h : Head) (us : Forest) → sizes (node h us ▸ nil) ≡ 1 + sizes us
 unfolding size sizes
@@ -20,9 +20,6 @@ pub sizes_behind : (us vs : Forest) → sizes (us ⊕ vs) ≡ sizes us + sizes v
 unfolding size sizes
 sizes_behind nil vs = omega arith
 sizes_behind (u ▸ us) vs = omega (arith, sizes_behind us vs)
-
-pub stands_none : (s : List Record) (from : ℕ) → Stands s from s from 0 0 nil
-stands_none s from ks c n = row_none s ks from c (chain_once (links s) from ks c)
 
 row_size : (s t : List Record) (ks : List ℕ) (free first last : ℕ) (us : Forest) (x : Row s t ks free first last us) → length ks ≡ sizes us + length x.chain
 row_size s t ks free first last us x =
@@ -62,7 +59,7 @@ pub drawn_over :
     (us : Forest)
     (p : Record)
     (r : Option ℕ)
-    → MatchOption r ((Slot (length t) free → ⊥) × (free' ≡ free) × (u ≡ t)) (λ k. (k ≡ free) × Slot (length t) k × (free' ≡ (at t k).next) × (u ≡ set t (k - 1) p))
+    → MatchOption r ((Slot (length t) free → ⊥) × (free' ≡ free) × (u ≡ t)) (λ k. (k ≡ free) × Slot (length t) k × (free' ≡ link_at (links t) k) × (u ≡ set t (k - 1) p))
     → n ≡ unwrap_or r 0
     → p.first ≡ first
     → p.next ≡ 0
@@ -74,4 +71,4 @@ drawn_over s t u from free free' first last n us p None d e e1 e2 em x =
 drawn_over s t u from free free' first last n us p (Some k) d e e1 e2 em x =
     subst (λ i. Stands s from u free' i i (node (head_of p) us ▸ nil)) (sym e)
     (stands_nested s t u from free first last us x free' k (head_of p)
-    (λ sl ks r. row_nested s t u ks free free' first last k us p sl d.0 d.2 d.3 e1 e2 em r))
+    (λ sl ks r. row_nested s t u ks free free' first last k us p sl d.0 (d.2 ∙ link_of_lem t k) d.3 e1 e2 em r))

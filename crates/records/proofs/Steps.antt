@@ -12,7 +12,7 @@ use Rattle.chain.proofs.Laws.{chain_push, chain_unique}
 use Rattle.grammar.specs.Tree.{Head}
 use Rattle.records.specs.declared.record.Record.{Record}
 use Rattle.records.specs.declared.record.Mark.TheVariants as mark
-use Rattle.records.specs.Record.{head_of, vacant, at, links}
+use Rattle.records.specs.Record.{head_of, vacant, at, links, relinked}
 use Rattle.records.specs.Siblings.{Siblings, none, sibling, size, count, Holds, Loose, Kept, Moved, siblings_at, weight, Given, Plain}
 use Rattle.records.proofs.AtSlots.{length_links, at_same, at_other}
 use Rattle.records.proofs.Pigeon.{found, size_most}
@@ -159,6 +159,15 @@ turn_child s free here (sibling h d (sibling c e A B) R) js ne nz x =
     subst (λ j. Turned s (t h j) free j (sibling h d (sibling c e A B) R) js) (sym x.0.4.0) done in
     subst (λ i. Turned s (t i (at s i).first) free (at s i).first (sibling h d (sibling c e A B) R) js) (sym x.0.0) there
 
+-- no record is its own child
+child_apart : (s : List Record) (free here : ℕ) (g : Siblings) (js : List ℕ) → here ≢ 0 → (at s here).first ≢ 0 → Loose s free here g js → (at s here).first ≢ here
+child_apart s free here none js ne nz x e = ne x.0
+child_apart s free here (sibling h d none R) js ne nz x e = nz (subst (λ i. (at s i).first ≡ 0) (sym x.0.0) x.0.4)
+child_apart s free here (sibling h d (sibling c y A B) R) js ne nz x e =
+    let z : c ≡ h = sym x.0.4.0 ∙ ap (λ (i : ℕ). (at s i).first) (sym x.0.0) ∙ e ∙ x.0.0 in
+    let u : is c h ≡ 1 = subst (λ v. is c v ≡ 1) z (is_same c) in
+    omega (arith, x.2 c, is_same c)
+
 -- turns one after another
 pub turned_on :
     (s t u : List Record)
@@ -187,19 +196,22 @@ alive s free here ne h = ∥∥₁_elim h (×_prop le_prop le_prop) (λ x. go x.
 pub alive_child :
     (s : List Record)
     (free here : ℕ)
+    (r : Record)
     → here ≢ 0
-    → (at s here).first ≢ 0
+    → r ≡ at s here
+    → r.first ≢ 0
     → ∥ ((f : Siblings) × (ks : List ℕ) × Loose s free here f ks) ∥₁
-    → (0 < (at s here).first) × ((at s here).first ≤ room (length s))
-alive_child s free here ne nz h = ∥∥₁_elim h (×_prop le_prop le_prop) (λ x. go x.0 x.2.0)
+    → (0 < r.first) × (r.first ≤ room (length s))
+alive_child s free here r ne e nz h = ∥∥₁_elim h (×_prop le_prop le_prop) (λ x. go x.0 x.2.0)
   where
     below : (i : ℕ) → i ≢ 0 → (f : Siblings) → Holds s i f → (0 < i) × (i ≤ room (length s))
     below i n none y = absurd (n y)
     below i n (sibling k d kids rest) y = (omega (arith, y.0, y.1), omega (arith, y.0, y.2))
 
-    go : (f : Siblings) → Holds s here f → (0 < (at s here).first) × ((at s here).first ≤ room (length s))
+    go : (f : Siblings) → Holds s here f → (0 < r.first) × (r.first ≤ room (length s))
     go none y = absurd (ne y)
-    go (sibling k d kids rest) y = below (at s here).first nz kids (subst (λ i. Holds s (at s i).first kids) (sym y.0) y.4)
+    go (sibling k d kids rest) y =
+        below r.first nz kids (subst (λ i. Holds s i kids) (sym (ap (λ (q : Record). q.first) e)) (subst (λ i. Holds s (at s i).first kids) (sym y.0) y.4))
 
 -- the head is not on the free chain
 pub head_off : (s : List Record) (free here : ℕ) → here ≢ 0 → ∥ ((f : Siblings) × (ks : List ℕ) × Loose s free here f ks) ∥₁ → Off (links s) free here
@@ -213,6 +225,10 @@ head_off s free here ne h js c = ∥∥₁_elim h (ℕ_set _ _) (λ x. go x.0 x.
         let a : times here js ≡ times here ks = ap (times here) (sym e) in
         omega (arith, x.2 here)
 
+-- a turn: from the siblings at here to those at here'
+abbrev pub Turns : List Record → ℕ → ℕ → List Record → ℕ → ℕ → Type 0
+Turns s free here t free' here' = (g : Siblings) (js : List ℕ) → Loose s free here g js → Turned s t free' here' g js
+
 -- a turn as the code has it
 pub leaf_turn :
     (s t : List Record)
@@ -223,10 +239,7 @@ pub leaf_turn :
     → r ≡ at s here
     → r.first ≡ 0
     → t ≡ set s (here - 1) (vacant free)
-    → (g : Siblings)
-    (js : List ℕ)
-    → Loose s free here g js
-    → Turned s t free' r.next g js
+    → Turns s free here t free' r.next
 leaf_turn s t free free' here r ef ne er z et g js x =
     subst (λ f. Turned s t f r.next g js) (sym ef)
     (subst (λ u. Turned s u here r.next g js) (sym et)
@@ -241,24 +254,29 @@ pub child_turn :
     → r ≡ at s here
     → r.first ≢ 0
     → c ≡ at s r.first
-    → u ≡ set s (here - 1) (record { form = r.form; first = c.next; next = r.next; lo = r.lo; hi = r.hi; mark = r.mark })
-    → t ≡ set u (r.first - 1) (record { form = c.form; first = c.first; next = here; lo = c.lo; hi = c.hi; mark = c.mark })
-    → (g : Siblings)
-    (js : List ℕ)
-    → Loose s free here g js
-    → Turned s t free r.first g js
+    → u ≡ set s (here - 1) (record { form = (at s here).form; first = c.next; next = (at s here).next; lo = (at s here).lo; hi = (at s here).hi; mark = (at s here).mark })
+    → t ≡ set u (r.first - 1) (relinked (at u r.first) here)
+    → Turns s free here t free r.first
 child_turn s u t free here r c ne er nz ec eu et g js x =
     subst (λ y. Turned s y free r.first g js) (sym et)
-    (subst (λ y. Turned s (set y (r.first - 1) (along c)) free r.first g js) (sym eu)
-    (subst (λ y. Turned s (set (set s (here - 1) (up r y)) (r.first - 1) (along y)) free r.first g js) (sym ec)
-    (subst (λ y. Turned s (set (set s (here - 1) (up y (at s y.first))) (y.first - 1) (along (at s y.first))) free y.first g js) (sym er)
-    (turn_child s free here g js ne (λ z. nz (ap (λ (y : Record). y.first) er ∙ z)) x))))
+    (subst (λ y. Turned s (set u (r.first - 1) (relinked y here)) free r.first g js) (sym below)
+    (subst (λ y. Turned s (set y (r.first - 1) (relinked (at s r.first) here)) free r.first g js) (sym (eu ∙ ap (λ (y : Record). up y) ec))
+    (subst (λ i. Turned s (set (up (at s i)) (i - 1) (relinked (at s i) here)) free i g js) (sym first)
+    (turn_child s free here g js ne nf x))))
   where
-    up : Record → Record → Record
-    up r c = record { form = r.form; first = c.next; next = r.next; lo = r.lo; hi = r.hi; mark = r.mark }
+    up : Record → List Record
+    up c = set s (here - 1) (record { form = (at s here).form; first = c.next; next = (at s here).next; lo = (at s here).lo; hi = (at s here).hi; mark = (at s here).mark })
 
-    along : Record → Record
-    along c = record { form = c.form; first = c.first; next = here; lo = c.lo; hi = c.hi; mark = c.mark }
+    first : r.first ≡ (at s here).first
+    first = ap (λ (y : Record). y.first) er
+
+    nf : (at s here).first ≢ 0
+    nf z = nz (first ∙ z)
+
+    below : at u r.first ≡ at s r.first
+    below =
+        ap (λ (v : List Record). at v r.first) eu
+        ∙ at_other s here r.first _ (omega (arith, ne)) (omega (arith, nz)) (λ z. child_apart s free here g js ne nf x (sym first ∙ z))
 
 -- the measure is the weight of the forest
 pub weighed : (s : List Record) (free here : ℕ) (g : Siblings) (js : List ℕ) → Loose s free here g js → weight (siblings_at (room (length s)) s here) ≡ weight g
@@ -269,7 +287,7 @@ weighed s free here g js x =
 pub falls :
     (s t : List Record)
     (free free' here here' : ℕ)
-    → ((g : Siblings) (js : List ℕ) → Loose s free here g js → Turned s t free' here' g js)
+    → Turns s free here t free' here'
     → ∥ ((f : Siblings) × (ks : List ℕ) × Loose s free here f ks) ∥₁
     → weight (siblings_at (room (length t)) t here') < weight (siblings_at (room (length s)) s here)
 falls s t free free' here here' turn h =
@@ -287,7 +305,7 @@ Left s t free here f ks =
 pub again :
     (s₀ s t : List Record)
     (free₀ here₀ free free' here here' : ℕ)
-    → ((g : Siblings) (js : List ℕ) → Loose s free here g js → Turned s t free' here' g js)
+    → Turns s free here t free' here'
     → ∥ ((f : Siblings) × (ks : List ℕ) × Loose s free here f ks) ∥₁
     × ((f : Siblings) (ks : List ℕ) → Loose s₀ free₀ here₀ f ks → Left s₀ s free here f ks)
     → ∥ ((f : Siblings) × (ks : List ℕ) × Loose t free' here' f ks) ∥₁

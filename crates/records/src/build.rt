@@ -5,7 +5,6 @@ ghost use Rattle.records.specs.declared.record.Record.{Record};
 ghost use Rattle.records.specs.Building.{rooted, Stands};
 
 use crate::record::{Head, Mark, Record};
-use crate::slots::draw;
 
 /// Draws a record for a parent, and puts it over the row that begins at `first` (0: it has no children). Answers 0 where no
 /// record is left; nothing is promised then, since the row did not leave one.
@@ -21,7 +20,7 @@ pub fn nest(slots: &mut [Record], free: &mut u16, head: Head, first: u16) -> u16
         mark: Mark::Unmarked,
     };
     // 0 and no Option: a reading is counted before it is put up, so a record is left.
-    draw(slots, free, parent).unwrap_or(0)
+    chain::take(slots, free, parent).unwrap_or(0)
 }
 
 /// A row of siblings that grows at its end: the slots of its first and its last tree, both 0 while there is none.
@@ -35,15 +34,22 @@ pub struct Children {
 impl Children {
     pub const NONE: Children = Children { first: 0, last: 0 };
 
+    /// The row that has one tree.
+    pub fn one(slot: u16) -> Children
+        ensures { result ≡ record { first = slot; last = slot } }
+    {
+        Children {
+            first: slot,
+            last: slot,
+        }
+    }
+
     /// The row with the tree at `child` behind it; that tree was put up after the row.
     pub fn push(self, slots: &mut [Record], child: u16) -> Children
         ensures row { (s t : List Record) (from free rest : ℕ) (us : Forest) (v : Tree) → Stands s from t free self.first self.last us → Stands t free slots.old rest child child (v ▸ nil) → Stands s from slots.new rest result.first result.last (us ⊕ (v ▸ nil)) }
     {
         if self.last == 0 {
-            return Children {
-                first: child,
-                last: child,
-            };
+            return Children::one(child);
         }
         // No row ends at what is no slot.
         if self.last > chain::last_slot(slots) {

@@ -13,5 +13,5 @@ pub use build::{Children, nest};
 pub use give_back::give_back_tree;
 pub use laws::{derived_is_sound, records_measure_trees};
 pub use record::{Head, Mark, Record};
-pub use slots::{draw, look, make, release, stamp, write};
+pub use slots::{look, make, stamp};
 pub use store::Store;

@@ -25,8 +25,8 @@ impl Mark {
 }
 
 /// One record: its form (a kind with its operator), its first child and its next sibling, its place in the source text,
-/// and its mark. A free record has the form `Free`, and `next` leads along the free chain. Links are slots of 16 bits, 0 for none: an
-/// `Option` would make every record that the caller lends larger.
+/// and its mark. A free record has the form `Free`, and `next` leads along the free chain. Links are slots of 16 bits, 0 for
+/// none: an `Option` would make every record that the caller lends larger.
 #[derive(Clone, Copy, PartialEq, Eq, Debug)]
 pub struct Record {
     pub form: Form,

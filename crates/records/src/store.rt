@@ -14,6 +14,7 @@ use crate::record::{Head, Mark, Record};
 use crate::{build, slots};
 
 /// The records, and where the chain of the free ones begins.
+// Not one struct with `Notes` and `Heads`: that saves three lines in each, and adds a field to the path in every clause.
 #[derive(Drop)]
 pub struct Store<'a> {
     pub slots: &'a mut [Record],
@@ -56,8 +57,7 @@ impl<'a> Store<'a> {
         ensures lender { SameLoan self.old.slots self.new.slots }
     {
         slots::stamp(self.slots, root, Mark::Unmarked);
-        let free = self.free;
-        self.free = give_back_tree(self.slots, free, root);
+        give_back_tree(self.slots, &mut self.free, root);
     }
 
     /// Draws a record for a parent and puts it over its children.

@@ -1,13 +1,14 @@
 -- The answers to questions, by the layout of the records.
 use Rattle.std.proofs.Common.{◌≡◌, ℕ, ◌-◌, List, [], map, length, get_or, Some, None, Option, sym, refl, ap, ◌∙◌, arith}
 use mathlib.Core.HLevel.{hedberg}
-use mathlib.Core.Logic.{∥∥₁_elim}
+use mathlib.Core.Logic.{∥∥₁_elim, ∥∥₁_map}
 use mathlib.Core.List.{is_set}
 use native.Mathlib.Decide.{ℕ_discrete}
 use Rattle.std.specs.List.{slice_get}
 use Rattle.std.specs.Option.{option_to_list}
 use Rattle.std.proofs.lemmas.List.{length-map}
 use Rattle.comments.specs.declared.store.Side.{Side}
+use Rattle.comments.specs.Lists.{Lists}
 use Rattle.chain.specs.Chain.{Chain}
 use Rattle.spliced.specs.declared.heads.NoteList.{NoteList}
 use Rattle.spliced.specs.Linked.{links}
@@ -20,6 +21,10 @@ use Rattle.spliced.proofs.Whole.{fit_at}
 -- equal lists where there is a layout are equal lists
 pub list_from : {P : Type 0} (xs ys : List ℕ) → ∥ P ∥₁ → (P → xs ≡ ys) → xs ≡ ys
 list_from xs ys h f = ∥∥₁_elim h (is_set (hedberg ℕ_discrete) xs ys) f
+
+-- a new layout and new lists, where there is a layout
+pub laid_from : {P Q : Type 0} (f g : Lists) → ∥ P ∥₁ → (P → Q × ((side : Side) (k : ℕ) → f side k ≡ g side k)) → ∥ Q ∥₁ × ((side : Side) (k : ℕ) → f side k ≡ g side k)
+laid_from f g h both = (∥∥₁_map h (λ p. (both p).0), λ side k. list_from (f side k) (g side k) h (λ p. (both p).1 side k))
 
 -- the list that was found has the comments of its notes
 pub list_found : (notes : List Note) (heads : List Head) (fn fh held : ℕ) (side : Side) (k slot : ℕ) (l : NoteList) → At heads side k slot l → (p : Laid notes heads fn fh held) → (ks : List ℕ) × Chain (links notes) l.first ks × (listed notes heads side k ≡ map (comment_at (comments notes)) ks)

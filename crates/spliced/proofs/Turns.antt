@@ -11,10 +11,26 @@ use Rattle.spliced.specs.Linked.{links}
 use Rattle.spliced.specs.Notes.{Note, linked_note}
 use Rattle.spliced.specs.Heads.{Head, list_at, with_list, At, Nowhere, front_of, listed}
 use Rattle.spliced.specs.Layout.{Layout, Laid}
+use Rattle.spliced.specs.Store.{lists_in}
+use Rattle.spliced.specs.declared.store.Spliced.{Spliced}
+use Rattle.spliced.specs.declared.notes.Notes.{Notes}
+use Rattle.spliced.specs.declared.heads.Heads.{Heads}
 use Rattle.spliced.proofs.Records.{links_held}
 use Rattle.spliced.proofs.Whole.{slot_from, none_from, last_note, not_unused, free_note, free_head}
 use Rattle.spliced.proofs.Calls.{relabelled_all, joined_all}
 use Rattle.spliced.proofs.Adding.{put_last, put_first}
+
+-- the store s, its notes and heads as they are after a list was moved
+abbrev pub Moved : Spliced → Notes → Heads → Side → ℕ → ℕ → Type 0
+Moved s notes heads side from to =
+    ∥ Laid notes.slots.now heads.slots.now notes.free heads.free s.held ∥₁
+    × ((at : Side) (k : ℕ) → listed notes.slots.now heads.slots.now at k ≡ shifted side (lists_in s) from to at k)
+
+-- and after a comment was added
+abbrev pub Added : Spliced → Notes → Heads → Side → ℕ → ℕ → Type 0
+Added s notes heads side k c =
+    ∥ Laid notes.slots.now heads.slots.now notes.free heads.free (s.held + 1) ∥₁
+    × ((at : Side) (j : ℕ) → listed notes.slots.now heads.slots.now at j ≡ added (lists_in s) side k c at j)
 
 -- a write at a slot leaves the records that have none
 pub beyond_written : {X : Type 0} (s t : List X) (k : ℕ) (x : X) → Slot (length s) k → t ≡ set s (k - 1) x → Beyond s t

@@ -5,7 +5,7 @@ ghost use Rattle.spliced.specs.Linked.{links};
 ghost use Rattle.spliced.specs.Heads.{list_at, with_list, At, Nowhere};
 ghost use Rattle.spliced.specs.Layout.{Idle};
 
-use crate::linked::{Linked, take};
+use crate::linked::Linked;
 use comments::Spot;
 
 /// A list: where it stands, and the slots of its first and its last comment.
@@ -33,16 +33,6 @@ pub(crate) struct Found {
     pub(crate) list: NoteList,
 }
 
-/// Makes every record an unused one.
-fn clear(slots: &mut [Head])
-    ensures unused { (i : ℕ) → list_at slots.new i ≡ None }
-    ensures length { length slots.new ≡ length slots.old }
-{
-    for head in slots.iter_mut() {
-        head.content = None;
-    }
-}
-
 /// The caller's records, where the chain of the unused ones begins, and the last slot that ever held a list, so that a
 /// search need not go beyond.
 #[derive(Drop)]
@@ -62,7 +52,7 @@ impl<'a> Heads<'a> {
         ensures lender { SameLoan slots.entry result.slots }
     {
         let last = usize::from(chain::last_slot(slots));
-        clear(&mut slots[..last]);
+        slots[..last].fill(Head::UNUSED);
         let free = chain::make(slots);
         Heads {
             slots,
@@ -76,12 +66,11 @@ impl<'a> Heads<'a> {
         ensures high { IfSome result (λ f. f.head ≤ self.now.high) }
         ensures finds { MatchOption result (Nowhere self.now.slots.now spot.side spot.offset) (λ f. At self.now.slots.now spot.side spot.offset f.head f.list) }
     {
-        for (i, head) in self.slots[..usize::from(self.high)].iter().enumerate() {
-            if let Some(list) = head.content {
-                if list.spot == spot {
-                    let head = i as u16 + 1;
-                    return Some(Found { head, list });
-                }
+        for (head, record) in (1..=self.high).zip(self.slots.iter()) {
+            if let Some(list) = record.content
+                && list.spot == spot
+            {
+                return Some(Found { head, list });
             }
         }
         None
@@ -94,7 +83,11 @@ impl<'a> Heads<'a> {
         ensures records { self.new.slots.now ≡ set self.old.slots.now (self.old.free - 1) (record { content = Some list; next = 0 }) }
         ensures lender { SameLoan self.old.slots self.new.slots }
     {
-        let head = take(self.slots, &mut self.free, Some(list));
+        let record = Linked {
+            content: Some(list),
+            next: 0,
+        };
+        let head = chain::take(self.slots, &mut self.free, record).unwrap();
         self.high = self.high.max(head);
     }
 
@@ -107,7 +100,8 @@ impl<'a> Heads<'a> {
         ensures records { self.new.slots.now ≡ with_list self.old.slots.now head (Some list) }
         ensures lender { SameLoan self.old.slots self.new.slots }
     {
-        self.slots[head as usize - 1].content = Some(list);
+        let slots = &mut *self.slots;
+        chain::record_mut(slots, head).content = Some(list);
     }
 
     /// Gives back the record of a list that has become empty.
@@ -118,7 +112,6 @@ impl<'a> Heads<'a> {
         ensures records { self.new.slots.now ≡ set self.old.slots.now (head - 1) (record { content = None; next = self.old.free }) }
         ensures lender { SameLoan self.old.slots self.new.slots }
     {
-        chain::give_back(self.slots, &mut self.free, head);
-        self.slots[head as usize - 1].content = None;
+        chain::release(self.slots, &mut self.free, head, Head::UNUSED);
     }
 }

@@ -1,7 +1,4 @@
 // The records that the caller lends: each holds something, and leads to another.
-ghost use Rattle.std.specs.Prelude.{◌≡◌, ◌-◌, length, set};
-ghost use Rattle.chain.specs.Chain.{Slot, link_at};
-ghost use Rattle.spliced.specs.Linked.{links};
 ghost use Rattle.std.proofs.Common.{refl};
 
 use chain::Link;
@@ -37,18 +34,4 @@ impl<T> Link for Linked<T> {
     fn set_next(&mut self, next: u16) {
         self.next = next;
     }
-}
-
-/// Takes the first slot off the chain of unused records, for what it is to hold.
-pub(crate) fn take<T: Copy>(slots: &mut [Linked<T>], free: &mut u16, content: T) -> u16
-    requires { Slot (length slots.old) free.old }
-    ensures slot { result ≡ free.old }
-    ensures rest { free.new ≡ link_at (links slots.old) free.old }
-    ensures records { slots.new ≡ set slots.old (free.old - 1) (record { content = content; next = 0 }) }
-{
-    let Some(slot) = chain::draw(slots, free) else {
-        unreachable()
-    };
-    slots[slot as usize - 1] = Linked { content, next: 0 };
-    slot
 }

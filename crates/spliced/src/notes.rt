@@ -5,7 +5,7 @@ ghost use Rattle.chain.specs.Chain.{room, Slot, link_at, Chain, slots_from, reli
 ghost use Rattle.spliced.specs.Linked.{links};
 ghost use Rattle.spliced.specs.Notes.{comments, comment_at, linked_note};
 
-use crate::linked::{Linked, take};
+use crate::linked::Linked;
 
 /// A comment; the link is the slot of the next one in its list.
 pub type Note = Linked<u32>;
@@ -61,7 +61,11 @@ impl<'a> Notes<'a> {
         ensures records { self.new.slots.now ≡ set self.old.slots.now (result - 1) (record { content = comment; next = 0 }) }
         ensures lender { SameLoan self.old.slots self.new.slots }
     {
-        take(self.slots, &mut self.free, comment)
+        let record = Linked {
+            content: comment,
+            next: 0,
+        };
+        chain::take(self.slots, &mut self.free, record).unwrap()
     }
 
     /// Leads the list that ends at `last` on to the one that begins at `first`.

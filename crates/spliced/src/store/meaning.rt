@@ -17,6 +17,7 @@ impl<'a> Store for Spliced<'a> {
 
     ghost vacant = { spare };
 
+    #[tactic(auto, using(crate::proofs::Turns::next_note, crate::proofs::Turns::next_head, crate::proofs::Turns::has_room, crate::proofs::Turns::beyond_written))]
     fn add(&mut self, spot: Spot, comment: u32) -> Result<(), Refusal>
         ensures fills { Fills (lists_in self.old) (lists_in self.new) (spare self.old) (spare self.new) spot.side spot.offset comment result }
         ensures same { OnErr result (self.new ≡ self.old) }
@@ -78,6 +79,7 @@ impl<'a> Store for Spliced<'a> {
         self.heads.give_back(source.head);
     }
 
+    // Tried: `map_or(0, |found| ..)` did not prove; its closure's result is unknown unless it has a clause of its own.
     fn count(&self, spot: Spot) -> usize {
         match self.heads.find(spot) {
             Some(found) => self.notes.count(found.list.first),

@@ -6,5 +6,5 @@ pub returns : goal.returns
 returns c =
     record {
       row = λ s from last us x.
-          drawn_over s c.args.slots.now c.draw.new.slots from c.args.free.now c.draw.new.free c.args.first last c.unwrap_or.result us _ c.draw.result c.draw.ensures c.unwrap_or.ensures refl refl refl x;
+          drawn_over s c.args.slots.now c.take.new.slots from c.args.free.now c.take.new.head c.args.first last c.unwrap_or.result us _ c.take.result c.take.ensures c.unwrap_or.ensures refl refl refl x;
     }

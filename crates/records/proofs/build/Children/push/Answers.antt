@@ -1,4 +1,7 @@
-use Rattle.std.proofs.Common.{arith}
+use Rattle.std.proofs.Common.{sym, subst, arith}
+use Rattle.grammar.specs.Tree.{nil, ◌▸◌, ◌⊕◌}
+use Rattle.records.specs.declared.build.Children.{Children}
+use Rattle.records.specs.Building.{Stands}
 use Rattle.records.specs.Record.{vacant}
 use Rattle.records.proofs.Rows.{row_first, row_behind}
 use Rattle.records.proofs.Standing.{stands_behind}
@@ -8,8 +11,9 @@ pub returns-then-self-eq0 : goal.returns-then-self-eq0
 returns-then-self-eq0 c =
     record {
       row = λ s t from free rest us v x y.
-          stands_behind s t c.args.slots.now from free c.args.self.first c.args.self.last us x c.args.slots.now rest c.args.child c.args.child c.args.child v y
-          (λ slot ks r w. row_first s t c.args.slots.now ks free rest c.args.self.first c.args.self.last c.args.child us v c.if-self-eq0.true r w);
+          subst (λ (row : Children). Stands s from c.args.slots.now rest row.first row.last (us ⊕ (v ▸ nil))) (sym c.one.ensures)
+          (stands_behind s t c.args.slots.now from free c.args.self.first c.args.self.last us x c.args.slots.now rest c.args.child c.args.child c.args.child v y
+          (λ slot ks r w. row_first s t c.args.slots.now ks free rest c.args.self.first c.args.self.last c.args.child us v c.if-self-eq0.true r w));
     }
 
 pub returns-then-self-last_slot : goal.returns-then-self-last_slot

@@ -5,8 +5,8 @@ use Rattle.records.specs.Siblings.{Siblings, Loose, Given}
 use Rattle.records.proofs.Stamps.{loose_stamped}
 use Rattle.records.proofs.store.Store.give_back.Goals as goal
 
-pub give_back_tree-self-requires : goal.give_back_tree-self-requires
-give_back_tree-self-requires c =
+pub give_back_tree-requires : goal.give_back_tree-requires
+give_back_tree-requires c =
     let s = c.args.self.now.slots.now in
     let free = c.args.self.now.free in
     let root = c.args.root in
@@ -22,9 +22,9 @@ returns c =
       length = (let l : length c.stamp.new.slots ≡ length s = ap length c.stamp.ensures ∙ simp length-set in omega arith);
       given = λ f ks x.
           subst
-          (λ t. Loose t free root f ks → Given t c.give_back_tree-self.new.slots f ks c.give_back_tree-self.result)
+          (λ t. Loose t free root f ks → Given t c.give_back_tree.new.slots f ks c.give_back_tree.new.free)
           c.stamp.ensures
-          (c.give_back_tree-self.ensures f ks)
+          (c.give_back_tree.ensures f ks)
           (loose_stamped s free root mark.Unmarked f ks root c.requires.inside x);
       lender = refl;
     }
