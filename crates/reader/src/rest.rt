@@ -58,8 +58,6 @@ pub enum Declared {
 // A value and no closure: a closure that is kept has to be boxed, which needs a heap.
 #[derive(Clone, Copy, PartialEq, Eq, Debug)]
 pub enum Rest {
-    /// Nothing begins so.
-    Fail,
     /// Nothing: the record is of this form.
     Done(Form),
     /// One token.

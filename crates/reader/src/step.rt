@@ -14,8 +14,6 @@ use token::{AssignOperator, Code, Punctuator, Token, Word};
 /// The next thing to do.
 #[derive(Clone, Copy, PartialEq, Eq, Debug)]
 pub enum Step {
-    /// There is no such record.
-    Fail,
     /// The record is complete.
     Finish(Form),
     /// Eat this token.
@@ -184,7 +182,6 @@ pub fn next_step(ahead: &[Token], rest: Rest) -> Step
     ensures { to_do result ≡ settle (do_of rest) ahead.now }
 {
     match rest {
-        Rest::Fail => Step::Fail,
         Rest::Done(form) => Step::Finish(form),
         Rest::Token(code, form) => Step::Eat(code, Rest::Done(form)),
         Rest::Last(mode, goal, form) => Step::Read(mode, goal, Rest::Done(form)),

@@ -2,7 +2,7 @@
 
 ghost use Rattle.std.specs.Prelude.{◌≡◌};
 ghost use Rattle.grammar.specs.Parser.{after, next, word_after, punctuator_after, operator_after, frame, binary_frame, first_slot, is_frame};
-ghost use Rattle.reader.specs.Table.{linked, turn_of, do_of, Turns, Grows};
+ghost use Rattle.reader.specs.Table.{linked, turn_of, do_or_fail, Turns, Grows};
 
 use crate::glance::peek;
 use crate::goal::{Goal, Mode};
@@ -155,12 +155,12 @@ fn linked(link: Link, chained: bool) -> Form
     }
 }
 
-/// What is left to read of the record that the token makes of the expression before it; `chained`: this is a link
-/// of an optional chain.
-pub fn behind(turn: Turn, chained: bool) -> Rest
-    ensures { Turns (turn_of turn) chained (do_of result) }
+/// What is left to read of the record that the token makes of the expression before it, if it makes one; `chained`: this
+/// is a link of an optional chain.
+pub fn behind(turn: Turn, chained: bool) -> Option<Rest>
+    ensures { Turns (turn_of turn) chained (do_or_fail result) }
 {
-    match turn {
+    let rest = match turn {
         Turn::Operates(operator) => Rest::TokenLast(
             Code::from(operator),
             Mode::Same,
@@ -193,8 +193,9 @@ pub fn behind(turn: Turn, chained: bool) -> Rest
         ),
         Turn::Calls => Rest::Open(List::Arguments(linked(Link::Call, chained))),
         Turn::Links => Rest::OptionalSign,
-        Turn::Ends | Turn::Cannot => Rest::Fail,
-    }
+        Turn::Ends | Turn::Cannot => return None,
+    };
+    Some(rest)
 }
 
 /// A form of the standing of the record that the token makes; `chained` as above.

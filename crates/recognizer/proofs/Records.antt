@@ -10,7 +10,7 @@ use Rattle.grammar.specs.Site.{Attr}
 use Rattle.grammar.specs.Layout.{layout, attr_of, attr, attrs, fit_kids, good, goods}
 use Rattle.fitting.specs.Summary.{Sums}
 use Rattle.fitting.specs.declared.summary.Summary.{Summary}
-use Rattle.grammar.specs.Parser.{Goal, Mode, mode, Do, fail, fin, eat, sub, settle, starts, Ran, ran, bind, exec, parse, perform}
+use Rattle.grammar.specs.Parser.{Goal, Mode, mode, Do, fin, eat, sub, settle, starts, Ran, ran, bind, exec, parse, perform}
 use Rattle.reader.specs.Reads.{own, Bad, NotParsed, graft}
 use Rattle.recognizer.specs.Reads.{Joined, Completed, Behind, Shape, Holds, Shaped, Parsed, Made, NotMade, Carried}
 use Rattle.reader.specs.Rows.{Nested, Pushed}
@@ -74,10 +74,6 @@ graft_inv us (some z) y h = (z, refl, ap (λ (x : Ran). x.kids) (the_same (ran z
 step_fin : (m : ℕ) (b : Bool) (s : Do) (h : ℕ) (ks : List Token) (f : Form) → settle s ks ≡ fin f → perform (suc m) b s h ks ≡ some (ran f nil h ks)
 unfolding perform
 step_fin m b s h ks f e = rw e
-
-step_fail : (m : ℕ) (b : Bool) (s : Do) (h : ℕ) (ks : List Token) → settle s ks ≡ fail → perform (suc m) b s h ks ≡ none
-unfolding perform
-step_fail m b s h ks e = rw e
 
 eat_yes : (R : Bool → Do → ℕ → List Token → Option Ran) (P : Bool → Goal → List Token → Option (Tree × List Token)) (b : Bool) (c : Code) (s : Do) (h : ℕ) (ks : List Token) (k : Token) (js : List Token) → ks ≡ k ∷ js → same_code k.code c ≡ true → exec P R b (eat c s) h ks ≡ R b s k.hi js
 eat_yes R P b c s h ks k js e d = rw (e, d)
@@ -224,9 +220,6 @@ module _ {K : Type 0} (R : K → K → Children → Forest → Type 0) (b : Bool
         let (k, l, g) = w (suc (k0 + n)) (omega arith) in
         let (z, i, j) = graft_inv us (perform (suc (k0 + n)) b s p.hi p.ahead.now) y (sym g ∙ raise_r n k b s0 p0.hi p0.ahead.now y (omega arith) e) in
         (k0 + n, z, i, subst (λ (vs : Forest). depths z.kids ≤ depths vs) j (depths_right us z.kids))
-
-    pub not_fail : (room : ℕ) → settle s p.ahead.now ≡ fail → NotMade b s0 p0 room NoDerivation
-    not_fail room e n y g = let (m, z, i, le) = back n y g in none-ne-some z (sym (step_fail m b s p.hi p.ahead.now e) ∙ i)
 
     pub not_eaten : (room : ℕ) (k : Code) (s2 : Do) → settle s p.ahead.now ≡ eat k s2 → starts k p.ahead.now ≡ false → NotMade b s0 p0 room NoDerivation
     not_eaten room k s2 e d n y g = let (m, z, i, le) = back n y g in none-ne-some z (sym (step_eat_no m b s p.hi p.ahead.now k s2 e d) ∙ i)

@@ -60,7 +60,6 @@ fn record<'a, S: Sink>(
     let mut parts = start;
     loop {
         match next_step(parts.ahead, rest) {
-            Step::Fail => return Err(Unread::NoDerivation),
             Step::Finish(form) => {
                 let head = Head {
                     form,
@@ -71,10 +70,7 @@ fn record<'a, S: Sink>(
                 return Ok(parts.complete(form, slot));
             }
             Step::Eat(code, then) => {
-                let Some(next) = parts.eat(code) else {
-                    return Err(Unread::NoDerivation);
-                };
-                parts = next;
+                parts = parts.eat(code).ok_or(Unread::NoDerivation)?;
                 rest = then;
             }
             Step::Read(mode, goal, then) => {
@@ -101,16 +97,13 @@ fn tree<'a, S: Sink>(
     if room == 0 {
         return Err(Unread::TooDeep);
     }
+    let begun = begin(ahead, goal).ok_or(Unread::NoDerivation)?;
     let none = sink.none();
-    let mut found = record(
-        begin(ahead, goal),
-        Parts::start(ahead, none),
-        allow_in,
-        room - 1,
-        sink,
-    )?;
+    let mut found = record(begun, Parts::start(ahead, none), allow_in, room - 1, sink)?;
     while goes_on(found, goal, allow_in) {
-        let rest = behind(turn_at(found.ahead), found.traits.is_chain());
+        let rest = behind(turn_at(found.ahead), found.traits.is_chain()).ok_or(
+            Unread::NoDerivation,
+        )?;
         found = record(rest, found.alone(), allow_in, room - 1, sink)?;
     }
     Ok(found)
