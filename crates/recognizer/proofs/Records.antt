@@ -124,7 +124,7 @@ unfolding goods
 goods_last nil t = and_true (good t)
 goods_last (u ▸ us) t = ap (λ (b : Bool). good u && b) (goods_last us t) ∙ and_assoc (good u) (goods us) (good t)
 
-holds_same : (us : Forest) (p q : Parts) → q.children ≡ p.children → q.good ≡ p.good → q.size ≡ p.size → q.depth ≡ p.depth → Holds us p → Holds us q
+holds_same : (us : Forest) (p q : Parts) → q.children ≡ p.children → q.good ≡ p.good → q.below.records ≡ p.below.records → q.below.depth ≡ p.below.depth → Holds us p → Holds us q
 holds_same us p q a b d e h = record { children = subst (λ (k : Summary). Sums (attrs us) k) (sym a) h.children; fit = h.fit ∙ sym b; records = h.records ∙ sym d; nests = h.nests ∙ sym e }
 
 holds_join : (us : Forest) (t : Tree) (p q : Parts) (f : Found) (r : Children) → Holds us p → Shape t f → Joined p f r q → Holds (us ⊕ (t ▸ nil)) q
@@ -133,7 +133,7 @@ holds_join us t p q f r h s j =
       children = subst (λ (cs : List Attr). Sums cs q.children) (sym (attrs_last us t ∙ ap (λ (a : Attr). attrs us ++ (a ∷ [])) s.attributes)) (j.children (attrs us) h.children);
       fit = goods_last us t ∙ rw (h.fit, s.fit) (sym j.fit);
       records = sizes_last us t ∙ omega (arith, h.records, s.records, j.records);
-      nests = depths_last us t ∙ rw (h.nests, s.nests, j.nests) (ap (λ (k : ℕ). max p.depth k) (omega arith));
+      nests = depths_last us t ∙ rw (h.nests, s.nests, j.nests) (ap (λ (k : ℕ). max p.below.depth k) (omega arith));
     }
 
 shaped_by : (us : Forest) (p : Parts) (g : Form) (n : ℕ) (f : Found) → Completed p g n f → Holds us p → Shaped us f

@@ -141,7 +141,7 @@ module _ (ts : List Token) (b : Bool) (q : Goal) where
         fails (k + n) b (frame_do (next l.ahead.now) (attr t).standing) (head_of t).hi l.ahead.now y (sym (does t sh) ∙ f) h1
 
     module _ (p : Parts) (al : Alone l p) where
-      more_below : (x0 : K) (f : Found) → Made b s p R m0 x0 f → l.below + 1 ≤ f.below
+      more_below : (x0 : K) (f : Found) → Made b s p R m0 x0 f → l.below.records + 1 ≤ f.below.records
       unfolding sizes
       more_below x0 f m =
           let (t, sh, w) = re.tree in

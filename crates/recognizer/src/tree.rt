@@ -53,7 +53,7 @@ fn record<'a, S: Sink>(
     inner: usize,
     sink: &mut S,
 ) -> Result<Found<'a>, Unread>
-    requires { start.size + length start.ahead.now < 2 ^ 64 }
+    requires { start.below.records + length start.ahead.now < 2 ^ 64 }
     ensures { MatchResult result (λ f. Made allow_in (do_of begun) start.entry S.rows sink.old sink.new f) (λ e. NotMade allow_in (do_of begun) start.entry inner e) }
 {
     let mut rest = begun;
@@ -136,7 +136,7 @@ pub fn script<'a, S: Sink>(tokens: &'a [Token], sink: &mut S) -> Result<Found<'a
     if !found.good {
         return Err(Unread::NoDerivation);
     }
-    if found.under > 511 {
+    if found.below.depth > 511 {
         return Err(Unread::TooDeep);
     }
     Ok(found)
