@@ -77,7 +77,7 @@ impl<'a> Parts<'a> {
     {
         Parts {
             children: self.children.with(child.traits),
-            good: self.good & child.good,
+            good: self.good && child.good,
             lo: self.lo,
             hi: child.hi,
             ahead: child.ahead,
@@ -92,7 +92,7 @@ impl<'a> Parts<'a> {
     {
         Found {
             traits: traits_of(form, self.children),
-            good: children_fit(form, self.children) & self.good,
+            good: children_fit(form, self.children) && self.good,
             lo: self.lo,
             hi: self.hi,
             ahead: self.ahead,
