@@ -164,7 +164,7 @@ fn for_init(ahead: &[Token]) -> Step
     if sees(ahead, Code::Punctuator(Punctuator::Semicolon)) {
         Step::Eat(
             Code::Punctuator(Punctuator::Semicolon),
-            Rest::ForTest(false),
+            Rest::ForTest { init: false },
         )
     } else if sees(ahead, Code::Word(Word::Var)) {
         Step::Read(Mode::Shut, Goal::Declaration, Rest::ForHead)
@@ -357,7 +357,10 @@ pub fn next_step(ahead: &[Token], rest: Rest) -> Step
             if sees(ahead, Code::Word(Word::In)) {
                 Step::Eat(Code::Word(Word::In), Rest::ForObject)
             } else {
-                Step::Eat(Code::Punctuator(Punctuator::Semicolon), Rest::ForTest(true))
+                Step::Eat(
+                    Code::Punctuator(Punctuator::Semicolon),
+                    Rest::ForTest { init: true },
+                )
             }
         }
         Rest::ForObject => Step::Read(
@@ -370,27 +373,27 @@ pub fn next_step(ahead: &[Token], rest: Rest) -> Step
                 Form::ForIn,
             ),
         ),
-        Rest::ForTest(init) => {
+        Rest::ForTest { init } => {
             if sees(ahead, Code::Punctuator(Punctuator::Semicolon)) {
                 Step::Eat(
                     Code::Punctuator(Punctuator::Semicolon),
-                    Rest::ForUpdate(init, false),
+                    Rest::ForUpdate { init, test: false },
                 )
             } else {
                 Step::Read(
                     Mode::Free,
                     Goal::Expression(Slot::Expression),
-                    Rest::ForSecond(init),
+                    Rest::ForSecond { init },
                 )
             }
         }
-        Rest::ForSecond(init) => {
+        Rest::ForSecond { init } => {
             Step::Eat(
                 Code::Punctuator(Punctuator::Semicolon),
-                Rest::ForUpdate(init, true),
+                Rest::ForUpdate { init, test: true },
             )
         }
-        Rest::ForUpdate(init, test) => {
+        Rest::ForUpdate { init, test } => {
             if sees(ahead, Code::Punctuator(Punctuator::CloseParen)) {
                 Step::Eat(
                     Code::Punctuator(Punctuator::CloseParen),
