@@ -31,6 +31,7 @@ pub fn at_stop(ahead: &[Token]) -> bool
 }
 
 /// Whether a token of this code can begin an expression.
+// Not `code_begins(&[], code).is_some()`: that makes up tokens behind this one, to find a Rest that is thrown away.
 pub fn opens(code: Code) -> bool
     ensures { result ≡ opens code }
 {

@@ -178,6 +178,7 @@ fn for_init(ahead: &[Token]) -> Step
 }
 
 /// The next step of what is left to read, by the next token.
+// Tried for each `if sees`: `eat_or(ahead, code, then, other)`. 8 lines shorter, but `other` is 5 lines with no `else` before.
 pub fn next_step(ahead: &[Token], rest: Rest) -> Step
     ensures { to_do result ≡ settle (do_of rest) ahead.now }
 {

@@ -165,7 +165,7 @@ module _ {K : Type 0} (ts : List Token) (R : K → K → Children → Forest →
       let x : ◌≡◌ {A = ℕ} 0 1 = cc in
       omega arith
 
-  pub too_deep : 511 < f.below.depth → NotScript ts TooDeep
+  pub too_deep : 512 ≤ f.below.depth → NotScript ts TooDeep
   too_deep lt = (omega (arith, w.few, w.shape.records, w.shape.nests, depth_size w.tree), λ u d. subst (λ (t : Tree). 512 < depth t) (sym (w.only u d)) (omega (arith, w.shape.nests)))
 
   a_script : T (ok root (attr w.tree))
@@ -178,5 +178,5 @@ module _ {K : Type 0} (ts : List Token) (R : K → K → Children → Forest →
       let (u, e, d) = good_derives ts w.tree a_script (subst T (sym (w.shape.fit ∙ fit)) tt) (sym v) in
       subst (λ (t : Tree). claim.Reads ts t) (w.only u d) d
 
-  pub scripted : f.good ≡ true → f.below.depth ≤ 511 → Scripted ts R e0 x0 f
+  pub scripted : f.good ≡ true → f.below.depth < 512 → Scripted ts R e0 x0 f
   scripted fit un = record { tree = w.tree; derived = derived fit; shape = w.shape; nests = omega (arith, w.shape.nests); few = w.few; row = w.row }

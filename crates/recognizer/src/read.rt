@@ -14,6 +14,7 @@ use records::{Mark, Store, stamp};
 use token::Token;
 
 /// How many records the tree has that the tokens derive.
+// A u64: it is to be the value of a refusal, which will be 64 bits wide.
 pub fn recognize(tokens: &[Token]) -> Result<u64, Unread>
     ensures { MatchResult result (λ n. Recognized tokens.now n) (λ e. NotScript tokens.now e) }
 {

@@ -21,6 +21,9 @@ use reader::unread::{Unread, refused};
 use records::Head;
 use token::Token;
 
+/// How deep a script may nest, itself counted.
+const DEEPEST: usize = 512;
+
 /// Whether the expression goes on with the token behind it, when it is read for the slot.
 fn taken(left: Found, turn: Turn, slot: Slot, allow_in: bool) -> bool
     ensures { result ≡ takes allow_in slot (standing_of left.entry) (frame (turn_of turn)) }
@@ -116,7 +119,7 @@ fn whole<'a, S: Sink>(tokens: &'a [Token], sink: &mut S) -> Result<Found<'a>, Un
 {
     let start = Parts::start(tokens, sink.none());
     let statements = Rest::Statements(Body::Script);
-    let found = record(statements, start, true, 511, sink).map_err(
+    let found = record(statements, start, true, DEEPEST - 1, sink).map_err(
         |why| -> Unread
             ensures { result ≡ refused_of (length tokens.entry.now) why }
         { refused(tokens.len(), why) },
@@ -136,7 +139,7 @@ pub fn script<'a, S: Sink>(tokens: &'a [Token], sink: &mut S) -> Result<Found<'a
     if !found.good {
         return Err(Unread::NoDerivation);
     }
-    if found.below.depth > 511 {
+    if found.below.depth >= DEEPEST {
         return Err(Unread::TooDeep);
     }
     Ok(found)
