@@ -1,5 +1,6 @@
 -- The loop over the steps of a record.
 use Rattle.std.proofs.Common.{◌≡◌, ℕ, suc, ◌+◌, ◌≤◌, max, Bool, true, false, ◌&&◌, List, [], ◌∷◌, ◌++◌, length, sym, refl, ap, ◌∙◌, subst, arith}
+use Rattle.std.proofs.Math.Bool.{and-true, and_assoc}
 use mathlib.Core.Option.{Option, none, some, none-ne-some}
 use Rattle.token.specs.Same.{same_code}
 use Rattle.token.specs.declared.Token.{Token}
@@ -19,7 +20,8 @@ use Rattle.recognizer.specs.declared.found.Found.{Found}
 use Rattle.recognizer.specs.declared.found.Parts.{Parts}
 use Rattle.reader.specs.declared.unread.Unread.{Unread}
 use Rattle.reader.specs.declared.unread.Unread.TheVariants.{NoDerivation, TooDeep}
-use Rattle.reader.proofs.Fuel.{raise_r, bind_inv}
+use Rattle.grammar.proofs.Written.{bind_inv, some_one}
+use Rattle.reader.proofs.Fuel.{raise_r}
 use Rattle.reader.proofs.Eats.{own_settle, own_one}
 
 -- Forests.
@@ -65,10 +67,7 @@ graft_child t (some y) = refl
 
 graft_inv : (us : Forest) (o : Option Ran) (y : Ran) → graft us o ≡ some y → (z : Ran) × (o ≡ some z) × (us ⊕ z.kids ≡ y.kids)
 graft_inv us none y h = absurd (none-ne-some y h)
-graft_inv us (some z) y h = (z, refl, ap (λ (x : Ran). x.kids) (the_same (ran z.form (us ⊕ z.kids) z.upto z.left) y h))
-  where
-    the_same : (a c : Ran) → ◌≡◌ {A = Option Ran} (some a) (some c) → a ≡ c
-    the_same a c e = cc
+graft_inv us (some z) y h = (z, refl, ap (λ (x : Ran). x.kids) (some_one (ran z.form (us ⊕ z.kids) z.upto z.left) y h))
 
 -- One step of the grammar's reader.
 step_fin : (m : ℕ) (b : Bool) (s : Do) (h : ℕ) (ks : List Token) (f : Form) → settle s ks ≡ fin f → perform (suc m) b s h ks ≡ some (ran f nil h ks)
@@ -100,10 +99,7 @@ sub_inv m b s h ks d q s2 y e g =
     let g2 : exec (parse m) (perform m) b (sub d q s2) h ks ≡ some y = sym (ap (λ (x : Do). exec (parse m) (perform m) b x h ks) e) ∙ g in
     let (x, h1, h2) = bind_inv (parse m (mode d b) q ks) _ y g2 in
     let (z, h3, h4) = bind_inv (perform m b s2 (head_of x.0).hi x.1) _ y h2 in
-    (x.0, x.1, z.kids, h1, ap (λ (a : Ran). a.kids) (the_same (ran z.form (x.0 ▸ z.kids) z.upto z.left) y h4))
-  where
-    the_same : (a c : Ran) → ◌≡◌ {A = Option Ran} (some a) (some c) → a ≡ c
-    the_same a c i = cc
+    (x.0, x.1, z.kids, h1, ap (λ (a : Ran). a.kids) (some_one (ran z.form (x.0 ▸ z.kids) z.upto z.left) y h4))
 
 -- What the parts hold.
 attrs_last : (us : Forest) (t : Tree) → attrs (us ⊕ (t ▸ nil)) ≡ attrs us ++ (attr t ∷ [])
@@ -111,18 +107,10 @@ unfolding attrs
 attrs_last nil t = refl
 attrs_last (u ▸ us) t = ap (λ (cs : List Attr). attr u ∷ cs) (attrs_last us t)
 
-and_assoc : (a b c : Bool) → a && (b && c) ≡ (a && b) && c
-and_assoc true b c = refl
-and_assoc false b c = refl
-
-pub and_true : (a : Bool) → a && true ≡ a
-and_true true = refl
-and_true false = refl
-
 goods_last : (us : Forest) (t : Tree) → goods (us ⊕ (t ▸ nil)) ≡ goods us && good t
 unfolding goods
-goods_last nil t = and_true (good t)
-goods_last (u ▸ us) t = ap (λ (b : Bool). good u && b) (goods_last us t) ∙ and_assoc (good u) (goods us) (good t)
+goods_last nil t = and-true (good t)
+goods_last (u ▸ us) t = ap (λ (b : Bool). good u && b) (goods_last us t) ∙ sym (and_assoc (good u) (goods us) (good t))
 
 holds_same : (us : Forest) (p q : Parts) → q.children ≡ p.children → q.good ≡ p.good → q.below.records ≡ p.below.records → q.below.depth ≡ p.below.depth → Holds us p → Holds us q
 holds_same us p q a b d e h = record { children = subst (λ (k : Summary). Sums (attrs us) k) (sym a) h.children; fit = h.fit ∙ sym b; records = h.records ∙ sym d; nests = h.nests ∙ sym e }

@@ -8,7 +8,7 @@ use Rattle.grammar.specs.Site.{Attr}
 use Rattle.grammar.specs.Layout.{attr, attrs, good, goods, sort_of}
 use Rattle.fitting.specs.Summary.{Sums}
 use Rattle.grammar.specs.Derives.{lo_of}
-use Rattle.grammar.specs.Parser.{Goal, Do, fail, prefix, After, frame_do, frame, next, goes_on, Ran, ran, bind, begun, grown_on, parse, loop, perform}
+use Rattle.grammar.specs.Parser.{Goal, Do, fail, prefix, frame_do, frame, next, goes_on, Ran, ran, bind, begun, grown_on, parse, loop, perform}
 use Rattle.reader.specs.Table.{Turns}
 use Rattle.reader.specs.Reads.{own, eats, Bad, NotParsed}
 use Rattle.recognizer.specs.Reads.{standing_of, Started, Alone, Holds, Shape, Shaped, Parsed, Made, NotMade, Reached, Onward}
@@ -18,9 +18,10 @@ use Rattle.recognizer.specs.declared.found.Found.{Found}
 use Rattle.recognizer.specs.declared.found.Parts.{Parts}
 use Rattle.reader.specs.declared.unread.Unread.{Unread}
 use Rattle.reader.specs.declared.unread.Unread.TheVariants.{NoDerivation, TooDeep}
-use Rattle.reader.proofs.Fuel.{raise_p, bind_inv, grow}
+use Rattle.grammar.proofs.Written.{bind_inv}
+use Rattle.reader.proofs.Fuel.{raise_p, grow}
 use Rattle.reader.proofs.Eats.{own_true, frame_eats}
-use Rattle.recognizer.proofs.Records.{and_true}
+use Rattle.std.proofs.Math.Bool.{and-true}
 
 bad_up : (e : Unread) (i room d c : ℕ) → 0 < room → i ≡ room - 1 → Bad e i d → d + 1 ≤ c → Bad e room c
 bad_up NoDerivation i room d c p q h le = h
@@ -50,7 +51,7 @@ holds_nil ks r p s = record { children = s.children; fit = sym s.fit; records = 
 
 holds_one : (t : Tree) (l : Found) (p : Parts) → Shape t l → Alone l p → Holds (t ▸ nil) p
 unfolding attrs goods sizes depths
-holds_one t l p s a = record { children = subst (λ (c : Attr). Sums (c ∷ []) p.children) (sym s.attributes) a.children; fit = and_true (good t) ∙ s.fit ∙ sym a.fit; records = omega (arith, s.records, a.records); nests = omega (arith, s.nests, a.nests) }
+holds_one t l p s a = record { children = subst (λ (c : Attr). Sums (c ∷ []) p.children) (sym s.attributes) a.children; fit = and-true (good t) ∙ s.fit ∙ sym a.fit; records = omega (arith, s.records, a.records); nests = omega (arith, s.nests, a.nests) }
 
 stands : (t : Tree) (f : Found) → Shape t f → (attr t).standing ≡ standing_of f
 stands t f s = ap (λ (a : Attr). a.standing) s.attributes
@@ -123,9 +124,9 @@ module _ (ts : List Token) (b : Bool) (q : Goal) where
         let h3 : perform m b s p.hi p.ahead.now ≡ some y = rw (e, st.hi, st.ahead) h1 in
         bad_up x inner room (depths y.kids) (depth t) pos is (nm m y h3) (omega (arith, depth_node (head y.form (lo_of ts) y.upto) y.kids, grow m b q (begun ts y) y.left t r h2))
 
-  module _ {K : Type 0} (R : K → K → Children → Forest → Type 0) (d0 m0 : K) (l : Found) (re : Reached ts b q R d0 m0 l) (s : Do) (a : After) (ch : Bool) (tn : Turns a ch s) (ea : a ≡ next l.ahead.now) (ec : ch ≡ is_o (standing_of l)) (on : Onward b q l true) where
+  module _ {K : Type 0} (R : K → K → Children → Forest → Type 0) (d0 m0 : K) (l : Found) (re : Reached ts b q R d0 m0 l) (s : Do) (tn : Turns (next l.ahead.now) (is_o (standing_of l)) s) (on : Onward b q l true) where
     does : (t : Tree) → Shape t l → s ≡ frame_do (next l.ahead.now) (attr t).standing
-    does t sh = tn (attr t).standing (ap is_o (stands t l sh) ∙ sym ec) ∙ ap (λ (z : After). frame_do z (attr t).standing) ea
+    does t sh = tn (attr t).standing (ap is_o (stands t l sh))
 
     goes : (t : Tree) → Shape t l → goes_on b q (attr t) (frame (next l.ahead.now)) ≡ true
     goes t sh = sym (on (attr t) (sorted t l sh) (stands t l sh))

@@ -1,5 +1,4 @@
 use Rattle.std.proofs.Common.{◌<◌, sym, refl, arith}
-use Rattle.reader.specs.Table.{turn_of}
 use Rattle.recognizer.proofs.Exits.{broke, lacked}
 use Rattle.reader.proofs.Eats.{prefix_eats}
 use Rattle.recognizer.proofs.Records.{carried_none, carried_eat, carried_read, made, not_eaten, not_read}
@@ -31,7 +30,7 @@ pub tree-returns-in_err-begun : goal.tree-returns-in_err-begun
 tree-returns-in_err-begun g t c = lacked _ _ _ _ _ _ c.in_err-begun.ensures.value c.from_residual.ensures.1 (no_start _ _ _ c.args.room (rw c.in_err-begun.ensures.ok_part at c.begin.ensures))
 
 pub tree-returns-in_err-rest : goal.tree-returns-in_err-rest
-tree-returns-in_err-rest g t c = lacked _ _ _ _ _ _ c.in_err-rest.ensures.value c.from_residual-in_err-rest.ensures.1 (no_step _ _ _ g.S.Sink.rows _ _ _ c.loop-goal.invariant _ (turn_of c.turn_at.result) c.is_chain.result (rw c.in_err-rest.ensures.ok_part at c.behind.ensures) c.turn_at.ensures c.is_chain.ensures c.loop-goal-test.ensures c.args.room refl)
+tree-returns-in_err-rest g t c = lacked _ _ _ _ _ _ c.in_err-rest.ensures.value c.from_residual-in_err-rest.ensures.1 (no_step _ _ _ g.S.Sink.rows _ _ _ c.loop-goal.invariant _ (rw (c.in_err-rest.ensures.ok_part, c.turn_at.ensures, c.is_chain.ensures) at c.behind.ensures) c.loop-goal-test.ensures c.args.room refl)
 
 pub tree-returns-in_err-found : goal.tree-returns-in_err-found
 tree-returns-in_err-found g t c = let lt : 0 < c.args.room = omega (arith, c.if-room-eq0.false) in broke _ _ _ _ c.from_residual-in_err-found.ensures.1 (refused_first _ _ _ _ _ _ c.start.ensures (rw c.in_ok-begun.ensures.ok_part at c.begin.ensures) _ _ _ lt refl c.in_err-found.ensures)
@@ -40,13 +39,13 @@ pub tree-loop-goal-init : goal.tree-loop-goal-init
 tree-loop-goal-init g t c = reached_first _ _ _ _ _ _ c.start.ensures (rw c.in_ok-begun.ensures.ok_part at c.begin.ensures) g.S.Sink.rows _ _ _ (prefix_eats c.args.goal _) c.none-none.ensures c.in_ok-found.ensures
 
 pub tree-returns-in_err-found-2 : goal.tree-returns-in_err-found-2
-tree-returns-in_err-found-2 g t c = let lt : 0 < c.args.room = omega (arith, c.if-room-eq0.false) in broke _ _ _ _ c.from_residual-in_err-found-2.ensures.1 (refused_next _ _ _ g.S.Sink.rows _ _ _ c.loop-goal.invariant _ (turn_of c.turn_at.result) c.is_chain.result (rw c.in_ok-rest.ensures.ok_part at c.behind.ensures) c.turn_at.ensures c.is_chain.ensures c.loop-goal-test.ensures _ c.alone.ensures _ _ _ lt refl c.in_err-found-2.ensures)
+tree-returns-in_err-found-2 g t c = let lt : 0 < c.args.room = omega (arith, c.if-room-eq0.false) in broke _ _ _ _ c.from_residual-in_err-found-2.ensures.1 (refused_next _ _ _ g.S.Sink.rows _ _ _ c.loop-goal.invariant _ (rw (c.in_ok-rest.ensures.ok_part, c.turn_at.ensures, c.is_chain.ensures) at c.behind.ensures) c.loop-goal-test.ensures _ c.alone.ensures _ _ _ lt refl c.in_err-found-2.ensures)
 
 pub tree-loop-goal-smaller : goal.tree-loop-goal-smaller
-tree-loop-goal-smaller g t c = longer _ _ _ g.S.Sink.rows _ _ _ c.loop-goal.invariant _ (turn_of c.turn_at.result) c.is_chain.result (rw c.in_ok-rest.ensures.ok_part at c.behind.ensures) c.turn_at.ensures c.is_chain.ensures c.loop-goal-test.ensures _ c.alone.ensures _ _ c.in_ok-found-2.ensures
+tree-loop-goal-smaller g t c = longer _ _ _ g.S.Sink.rows _ _ _ c.loop-goal.invariant _ (rw (c.in_ok-rest.ensures.ok_part, c.turn_at.ensures, c.is_chain.ensures) at c.behind.ensures) c.loop-goal-test.ensures _ c.alone.ensures _ _ c.in_ok-found-2.ensures
 
 pub tree-loop-goal-preserved : goal.tree-loop-goal-preserved
-tree-loop-goal-preserved g t c = reached_next _ _ _ g.S.Sink.rows _ _ _ c.loop-goal.invariant _ (turn_of c.turn_at.result) c.is_chain.result (rw c.in_ok-rest.ensures.ok_part at c.behind.ensures) c.turn_at.ensures c.is_chain.ensures c.loop-goal-test.ensures _ c.alone.ensures _ _ c.in_ok-found-2.ensures
+tree-loop-goal-preserved g t c = reached_next _ _ _ g.S.Sink.rows _ _ _ c.loop-goal.invariant _ (rw (c.in_ok-rest.ensures.ok_part, c.turn_at.ensures, c.is_chain.ensures) at c.behind.ensures) c.loop-goal-test.ensures _ c.alone.ensures _ _ c.in_ok-found-2.ensures
 
 pub tree-returns : goal.tree-returns
 tree-returns g t c = stopped _ _ _ g.S.Sink.rows _ _ _ c.loop-goal.invariant c.loop-goal-test.ensures
