@@ -4,41 +4,45 @@
 mod work;
 
 use std::{env, io};
-use work::Work;
+use work::{Work, measure};
 
 /// With the argument `full` the sizes of the README; otherwise small ones, which only show that it runs.
 fn main(rt: HostRuntime) -> io::Result<()> {
     let by = if is_full(&rt)? { 100 } else { 1 };
+    let moves = 200 * by;
     println!(rt; "offsets: as many comments and moves, on fewer and fewer offsets")?;
     for (offsets, each) in [(200, 3), (50, 12), (10, 60)] {
-        work::measure(
+        let offsets = offsets * by;
+        measure(
             &rt,
             Work {
-                offsets: offsets * by,
+                offsets,
                 each,
-                moves: 200 * by,
+                moves,
             },
         )?;
     }
     println!(rt; "comments: fewer and fewer comments, on as many offsets")?;
     for each in [2, 1] {
-        work::measure(
+        let offsets = 200 * by;
+        measure(
             &rt,
             Work {
-                offsets: 200 * by,
+                offsets,
                 each,
-                moves: 200 * by,
+                moves,
             },
         )?;
     }
     println!(rt; "lengths: longer and longer lists are joined")?;
     for each in [2, 6, 60, 6 * by] {
-        work::measure(
+        let (offsets, moves) = (100, 99);
+        measure(
             &rt,
             Work {
-                offsets: 100,
+                offsets,
                 each,
-                moves: 99,
+                moves,
             },
         )?;
     }
@@ -46,8 +50,9 @@ fn main(rt: HostRuntime) -> io::Result<()> {
 }
 
 fn is_full(rt: &HostRuntime) -> io::Result<bool> {
-    match env::args(rt)?.nth(1) {
-        Some(word) => Ok(word.as_str() == "full"),
-        None => Ok(false),
-    }
+    Ok(
+        env::args(rt)?
+            .nth(1)
+            .is_some_and(|word| word.as_str() == "full"),
+    )
 }

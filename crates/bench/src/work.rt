@@ -19,7 +19,7 @@ pub struct Work {
 pub fn measure(rt: &HostRuntime, work: Work) -> io::Result<()> {
     let heap = rt.alloc();
     let moves = moves_of(heap, work)?;
-    let comments = (work.offsets.saturating_mul(work.each)) as usize;
+    let comments = work.offsets.saturating_mul(work.each) as usize;
     let mut notes = vec![in heap; Note::UNUSED; comments]?;
     let mut heads = vec![in heap; Head::UNUSED; comments]?;
     let mut entries = vec![in heap; Entry::UNUSED; comments]?;

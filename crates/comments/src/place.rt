@@ -14,8 +14,7 @@ impl fmt::Display for Place {
     ghost output = { λ p. Some (decimal p.lo ++ (codes " to " ++ decimal p.hi)) };
 
     fn fmt<W: fmt::Write>(&self, f: &mut fmt::Formatter<W>) -> fmt::Result {
-        let lo = self.lo;
-        let hi = self.hi;
+        let Place { lo, hi } = *self;
         write!(f, "{lo} to {hi}")
     }
 }

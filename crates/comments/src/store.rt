@@ -42,8 +42,8 @@ pub trait Store {
         ensures fills { Fills (lists self.old) (lists self.new) (vacant self.old) (vacant self.new) spot.side spot.offset comment result }
         ensures same { OnErr result (self.new ≡ self.old) };
 
-    /// Puts the list on a side at `from` to the outer side of that at `to`: a leading one before it, a trailing one after it. Then
-    /// `from` is empty. Equal offsets change nothing.
+    /// Puts the list on a side at `from` to the outer side of that at `to`: a leading one before it, a trailing one after it.
+    /// Then `from` is empty. Equal offsets change nothing.
     fn move_list(&mut self, side: Side, from: u32, to: u32)
         ensures moved { (at : Side) (k : ℕ) → lists self.new at k ≡ shifted side (lists self.old) from to at k }
         ensures vacant { vacant self.new ≡ vacant self.old };

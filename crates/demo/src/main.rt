@@ -1,4 +1,5 @@
-// One task from beginning to end: a pricing rule is read from standard input, its needless pairs go, and their comments are carried.
+// One task from beginning to end: a pricing rule is read from standard input, its needless pairs go, and their comments are
+// carried.
 #![tactic(auto)]
 
 mod pairs;

@@ -8,54 +8,61 @@ pub fn moves_of(heap: Global, tokens: &[Token]) -> Result<Vec<Move>, AllocError>
     let mut moves = Vec::new(heap);
     for (i, token) in tokens.iter().enumerate() {
         if token.code == Code::Name {
-            pairs_round(tokens, i, &mut moves)?;
+            let (before, behind) = tokens.split_at(i);
+            pairs_round(before, *token, &behind[1..], &mut moves)?;
         }
     }
     Ok(moves)
 }
 
-/// Adds a move for each pair directly round the token at an index.
-fn pairs_round(tokens: &[Token], i: usize, moves: &mut Vec<Move>) -> Result<(), AllocError> {
-    let to = place_at(tokens, i, i);
-    for (first, last) in (0..i).rev().zip(i.saturating_add(1)..tokens.len()) {
-        if !is_pair(tokens, first, last) {
+/// Adds a move for each pair directly round a token, told what stands before it and behind it.
+fn pairs_round(
+    before: &[Token],
+    token: Token,
+    behind: &[Token],
+    moves: &mut Vec<Move>,
+) -> Result<(), AllocError> {
+    let to = place_of(token, token);
+    let mut outside = (before, behind);
+    while let (Some((open, before)), Some((close, behind))) = (
+        outside.0.split_last(),
+        outside.1.split_first(),
+    ) {
+        if !is_pair(before.last(), *open, *close, behind.first()) {
             break;
         }
-        let from = place_at(tokens, first, last);
+        let from = place_of(*open, *close);
         moves.push(Move { from, to })?;
+        outside = (before, behind);
     }
     Ok(())
 }
 
 /// From the first of two tokens to the last one.
-fn place_at(tokens: &[Token], first: usize, last: usize) -> Place {
-    match (tokens.get(first), tokens.get(last)) {
-        (Some(a), Some(b)) => Place { lo: a.lo, hi: b.hi },
-        _ => Place { lo: 0, hi: 0 },
+fn place_of(first: Token, last: Token) -> Place {
+    Place {
+        lo: first.lo,
+        hi: last.hi,
     }
 }
 
-/// Whether two tokens are the parentheses of a pair, and not of arguments, parameters or a statement's head.
-fn is_pair(tokens: &[Token], first: usize, last: usize) -> bool {
-    let before = first.checked_sub(1);
-    is_sign(tokens.get(first), Punctuator::OpenParen)
-        && is_sign(tokens.get(last), Punctuator::CloseParen)
-        && before.is_none_or(|i| before_operand(tokens.get(i)))
-        && !is_sign(tokens.get(last.saturating_add(1)), Punctuator::Arrow)
-}
-
-fn is_sign(token: Option<&Token>, sign: Punctuator) -> bool {
-    token.is_some_and(|token| token.code == Code::Punctuator(sign))
+/// Whether two tokens are the parentheses of a pair, and not of arguments, parameters or a statement's head; told what stands
+/// outside of them.
+fn is_pair(before: Option<&Token>, open: Token, close: Token, behind: Option<&Token>) -> bool {
+    open.code == Code::Punctuator(Punctuator::OpenParen)
+        && close.code == Code::Punctuator(Punctuator::CloseParen)
+        && before.is_none_or(|token| before_operand(*token))
+        && !behind.is_some_and(|token| token.code == Code::Punctuator(Punctuator::Arrow))
 }
 
 /// Whether an operand begins behind a token, whatever stands before that.
-fn before_operand(token: Option<&Token>) -> bool {
-    token.is_some_and(|token| match token.code {
+fn before_operand(token: Token) -> bool {
+    match token.code {
         Code::Operator(_) | Code::AssignOperator(_) => true,
         Code::Punctuator(sign) => opens_operand(sign),
         Code::Word(word) => comes_before_operand(word),
         Code::Name | Code::Number | Code::String => false,
-    })
+    }
 }
 
 fn comes_before_operand(word: Word) -> bool {

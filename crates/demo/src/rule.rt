@@ -2,7 +2,7 @@
 use comments::{Place, Side, Spot};
 use std::alloc::{AllocError, AllocFailed, Global};
 use token::Token;
-use words::code_of_word;
+use words::{code_of_word, offset};
 
 /// A comment: its number, where its text stands, and what it belongs to. It leads the token behind it, or trails the last one.
 #[derive(Clone, Copy, PartialEq, Eq, Debug)]
@@ -83,9 +83,7 @@ impl Rule {
 
     /// The comments that had no token behind them yet lead this one.
     fn add_token(&mut self, word: &str, place: Place) -> Result<(), Fault> {
-        let Some(code) = code_of_word(word) else {
-            return Err(Fault::Unknown(place));
-        };
+        let code = code_of_word(word).ok_or(Fault::Unknown(place))?;
         let Place { lo, hi } = place;
         for comment in self.comments.iter_mut() {
             if comment.spot.side == Side::Trailing {
@@ -95,9 +93,4 @@ impl Rule {
         self.tokens.push(Token { code, lo, hi })?;
         Ok(())
     }
-}
-
-/// A length as an offset. Rules are far shorter than 4 GiB; a longer one would keep its last offset.
-fn offset(length: usize) -> u32 {
-    u32::try_from(length).unwrap_or(u32::MAX)
 }

@@ -4,6 +4,7 @@ use comments::{Move, Place, Side, Spot, Store};
 use refusal::Refusal;
 use std::io;
 use token::{Code, Token};
+use words::offset;
 
 /// The rule that is shown: its text, and its comments, which stores know by their numbers.
 #[derive(Clone, Copy, PartialEq, Eq, Debug)]
@@ -15,9 +16,7 @@ pub struct Shown<'a> {
 impl<'a> Shown<'a> {
     /// Behind the last offset of the text.
     pub fn end(self) -> u32 {
-        u32::try_from(self.text.len())
-            .unwrap_or(u32::MAX)
-            .saturating_add(1)
+        offset(self.text.len()).saturating_add(1)
     }
 
     /// What a comment says, by its number.
@@ -82,6 +81,7 @@ fn part(text: &str, at: Place) -> &str {
     text.get(at.lo as usize..at.hi as usize).unwrap_or("")
 }
 
+/// A store refuses only for want of records.
 pub fn show_answer(
     rt: &HostRuntime,
     store: &str,
@@ -105,7 +105,8 @@ pub fn show_move(rt: &HostRuntime, m: &Move) -> io::Result<()> {
     println!(rt; "   from the pair at {from} to what stands at {to}")
 }
 
-/// Prints every list of a store that is not empty, at the offsets of the rule. A store has no iterator: it answers by offset and rank.
+/// Prints every list of a store that is not empty, at the offsets of the rule. A store has no iterator: it answers by offset
+/// and rank.
 pub fn show_lists<S: Store>(
     rt: &HostRuntime,
     name: &str,

@@ -16,7 +16,7 @@ pub enum Mark {
 }
 
 impl Mark {
-    /// 1 for the root of a loaded tree, 2 of a fixed one, 3 of a piece, 0 for every other record. A method, not only a cast: contracts cite it.
+    /// 1 for the root of a loaded tree, 2 of a fixed one, 3 of a piece, 0 for every other record.
     pub fn number(self) -> u8
         ensures { result ≡ mark_number self }
     {

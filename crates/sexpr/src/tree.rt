@@ -68,7 +68,7 @@ impl<'a, 'b> Writer<'a, 'b> {
                         child = self.tree(slot, room - 1)?;
                     }
                 }
-                // No record has more children than there are slots.
+                // No record has more children than there are slots; a `while let` would have no measure.
                 for _ in 0..u16::MAX {
                     let Some(slot) = child else {
                         break;

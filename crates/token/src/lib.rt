@@ -38,7 +38,8 @@ impl Code {
     }
 }
 
-/// A code with its place: the token begins at the offset `lo` of the source text and ends before `hi`.
+/// A code with its place: the token begins at the offset `lo` of the source text and ends before `hi`. Two fields and no struct
+/// of them: the definitions and laws of readings name `lo` and `hi`, and each would be a step longer.
 #[derive(Clone, Copy, PartialEq, Eq, Debug)]
 pub struct Token {
     pub code: Code,

@@ -1,5 +1,6 @@
-// What a caller holds of an outstanding tree: its pool's number and its root's slot. Each state is a type of its own, and not a parameter
-// of one type: that would take a trait, three empty types and three aliases to say what these two fields say.
+// What a caller holds of an outstanding tree: its pool's number and its root's slot. Each state is a type of its own: a type
+// with a state parameter would take a trait, three empty types and three aliases, and a struct inside each a field more in
+// every path.
 ghost use Rattle.std.specs.Prelude.{◌≡◌};
 ghost use Rattle.toolkit.specs.Keys.{key};
 
@@ -38,7 +39,7 @@ pub struct Returned<T> {
     pub refusal: Refusal,
 }
 
-// What a pool compares with its records: the number and the root of a tree, and the mark that its type stands for.
+/// What a pool compares with its records: the number and the root of a tree, and the mark that its type stands for.
 #[derive(Clone, Copy, PartialEq, Eq, Debug)]
 pub(crate) struct Key {
     pub pool: u16,
@@ -64,7 +65,7 @@ impl Tree {
         }
     }
 
-    // Ends a tree whose records are about to be given back.
+    /// Ends a tree whose records are about to be given back.
     pub(crate) fn spend(self) {
         match self {
             Tree::Loaded(Loaded { pool: _, root: _ }) => {}

@@ -5,4 +5,4 @@ mod shape;
 mod tokens;
 
 pub use shape::code_of_word;
-pub use tokens::{Fault, tokens_of};
+pub use tokens::{Fault, offset, tokens_of};

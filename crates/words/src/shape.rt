@@ -4,9 +4,11 @@ use token::Code;
 
 /// The code of a word; none where it is no token.
 pub fn code_of_word(word: &str) -> Option<Code> {
-    if let Some(code) = code_of(word) {
-        return Some(code);
-    }
+    code_of(word).or_else(|| code_of_shape(word))
+}
+
+/// The code of a word that is no fixed spelling.
+fn code_of_shape(word: &str) -> Option<Code> {
     if is_name(word) {
         Some(Code::Name)
     } else if is_number(word) {

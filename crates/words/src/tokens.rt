@@ -1,4 +1,6 @@
 // The tokens of a rule, with places that depend on its words alone.
+ghost use Rattle.std.specs.Prelude.{◌≡◌, min};
+
 use crate::shape::code_of_word;
 use std::alloc::{AllocError, AllocFailed, Global};
 use std::io;
@@ -39,21 +41,18 @@ impl From<Fault> for io::Error {
 pub fn tokens_of(heap: Global, rule: &str) -> Result<Vec<Token>, Fault> {
     let mut tokens = Vec::new(heap);
     let mut lo = 1u32;
-    for word in rule.split(' ') {
-        if word.is_empty() {
-            continue;
-        }
-        let Some(code) = code_of_word(word) else {
-            return Err(Fault::NoToken);
-        };
-        let hi = lo.saturating_add(width(word));
+    for word in rule.split(' ').filter(|word| !word.is_empty()) {
+        let code = code_of_word(word).ok_or(Fault::NoToken)?;
+        let hi = lo.saturating_add(offset(word.len()));
         tokens.push(Token { code, lo, hi })?;
         lo = hi.saturating_add(1);
     }
     Ok(tokens)
 }
 
-/// A length as part of a place. Rules are far shorter than 4 GiB; a longer one would keep its last offset.
-fn width(word: &str) -> u32 {
-    u32::try_from(word.len()).unwrap_or(u32::MAX)
+/// A length as an offset. Rules are far shorter than 4 GiB; a longer one would keep its last offset.
+pub fn offset(length: usize) -> u32
+    ensures { result ≡ min length 4294967295 }
+{
+    u32::try_from(length).unwrap_or(u32::MAX)
 }

@@ -7,7 +7,7 @@ use crate::pool::Pool;
 use crate::trees::Key;
 
 impl<'a> Pool<'a> {
-    // Whether a key is one of this pool: its number is the pool's, and its root bears its mark.
+    /// Whether a key is one of this pool: its number is the pool's, and its root bears its mark.
     pub(crate) fn owns(&self, key: Key) -> bool
         ensures yes { result ≡ true → Valid (held self.now) key }
         ensures no { result ≡ false → Valid (held self.now) key → ⊥ }

@@ -7,9 +7,5 @@ invariant_of-result c =
     let f = fresh c.args.number _ _ _ c.new.ensures.chain c.new.ensures.records c.new.ensures.beyond in
     record { accounted = ∣ (f.ledger.0, [], f.ledger.1) ∣₁ }
 
-pub returns : goal.returns
-returns c =
-    record {
-      fresh = fresh c.args.number _ _ _ c.new.ensures.chain c.new.ensures.records c.new.ensures.beyond;
-      lender = c.new.ensures.lender;
-    }
+pub returns-clause-fresh : goal.returns-clause-fresh
+returns-clause-fresh c = fresh c.args.number _ _ _ c.new.ensures.chain c.new.ensures.records c.new.ensures.beyond
