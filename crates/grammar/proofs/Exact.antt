@@ -110,7 +110,7 @@ reads_found ts t d =
     let e : entire ts t [] ≡ true = is_true _ (and_i (ok root (attr t)) _ o (and_i (good t) _ g (subst (λ (x : List Code). T (same_codes (codes ts) x)) w (codes_refl (codes ts))))) in
     rw (found d (8 * length ts + 8) (omega arith), e)
 
-cond_some : {A : Type 0} (b : Bool) (x y : A) → cond b (some x) none ≡ some y → T b × (x ≡ y)
+pub cond_some : {A : Type 0} (b : Bool) (x y : A) → cond b (some x) none ≡ some y → T b × (x ≡ y)
 cond_some true x y h = (tt, (cc))
 cond_some false x y h = absurd (none-ne-some y h)
 

@@ -18,11 +18,11 @@ use Rattle.grammar.specs.Claim.{is_head, FoundWritten}
 use Rattle.grammar.proofs.Promises.{Known, written, Promises, settled}
 use Rattle.grammar.proofs.Kept.{prefix_keeps, frame_keeps}
 
-bind_inv : {A B : Type 0} (o : Option A) (f : A → Option B) (z : B) → bind o f ≡ some z → (x : A) × (o ≡ some x) × (f x ≡ some z)
+pub bind_inv : {A B : Type 0} (o : Option A) (f : A → Option B) (z : B) → bind o f ≡ some z → (x : A) × (o ≡ some x) × (f x ≡ some z)
 bind_inv none f z h = absurd (none-ne-some z h)
 bind_inv (some x) f z h = (x, refl, h)
 
-some_one : {A : Type 0} (x y : A) → ◌≡◌ {A = Option A} (some x) (some y) → x ≡ y
+pub some_one : {A : Type 0} (x y : A) → ◌≡◌ {A = Option A} (some x) (some y) → x ≡ y
 some_one x y h = cc
 
 abbrev Parses : ℕ → Type 0

@@ -13,6 +13,7 @@ use Rattle.kinds.specs.Levels.{Standing}
 use Rattle.grammar.specs.Layout.{code_begin}
 use Rattle.grammar.specs.Site.{is_other}
 use Rattle.grammar.specs.Codes.{arrow}
+use Rattle.grammar.proofs.Tests.{and_l, and_r, and_i}
 use Rattle.grammar.specs.Parser.{Do, starts, opens, skip, prefix, opening, word_do, punctuator_do, operator_do, expr_do, stm_do, stm_opening, stm_word, stm_punctuator, arrow_do, paren_do, plain_do, frame_do, After, operates, assigns, counts, separates, asks, names_it, keys, calls, links, ends, cannot}
 use Rattle.reader.specs.Table.{goal_of}
 use Rattle.reader.specs.Reads.{eats}
@@ -20,14 +21,15 @@ use Rattle.reader.specs.Width.{plain}
 use Rattle.reader.specs.declared.goal.Goal.{Goal}
 use Rattle.reader.specs.declared.goal.Goal.TheVariants.{Expression, Statement, Block, Declaration, Property, Name}
 
+-- One walk over the words and one over the punctuators serve expressions and statements alike.
 abbrev both : Do → Bool
 both s = eats s && plain s
 
-either : (b : Bool) (s t : Do) → T (both s) → T (both t) → T (both (cond b s t))
-either true s t h k = h
-either false s t h k = k
+pub either : (f : Do → Bool) (b : Bool) (s t : Do) → T (f s) → T (f t) → T (f (cond b s t))
+either f true s t h k = h
+either f false s t h k = k
 
-word_both : (w : Word) → T (both (word_do w))
+word_both : (w : Word) → T (both (word_do w) && both (stm_word w))
 word_both word.Null = tt
 word_both word.True = tt
 word_both word.False = tt
@@ -48,8 +50,8 @@ word_both word.Else = tt
 word_both word.While = tt
 word_both word.For = tt
 
-punctuator_both : (p : Punctuator) (ks : List Token) → T (both (punctuator_do p ks))
-punctuator_both punctuator.OpenParen ks = either (starts arrow (skip 0 ks)) arrow_do paren_do tt tt
+punctuator_both : (p : Punctuator) (ks : List Token) → T (both (punctuator_do p ks) && both (stm_punctuator p))
+punctuator_both punctuator.OpenParen ks = and_i (both (cond (starts arrow (skip 0 ks)) arrow_do paren_do)) _ (either both (starts arrow (skip 0 ks)) arrow_do paren_do tt tt) tt
 punctuator_both punctuator.CloseParen ks = tt
 punctuator_both punctuator.OpenBracket ks = tt
 punctuator_both punctuator.CloseBracket ks = tt
@@ -96,53 +98,17 @@ opening_both : (c : Code) (ks : List Token) → T (both (opening c ks))
 opening_both code.Name ks = tt
 opening_both code.Number ks = tt
 opening_both code.String ks = tt
-opening_both (code.Word w) ks = word_both w
-opening_both (code.Punctuator p) ks = punctuator_both p ks
+opening_both (code.Word w) ks = and_l (both (word_do w)) _ (word_both w)
+opening_both (code.Punctuator p) ks = and_l (both (punctuator_do p ks)) _ (punctuator_both p ks)
 opening_both (code.Operator o) ks = operator_both o
 opening_both (code.AssignOperator o) ks = tt
-
-stm_word_both : (w : Word) → T (both (stm_word w))
-stm_word_both word.Null = tt
-stm_word_both word.True = tt
-stm_word_both word.False = tt
-stm_word_both word.This = tt
-stm_word_both word.Function = tt
-stm_word_both word.Typeof = tt
-stm_word_both word.Void = tt
-stm_word_both word.Delete = tt
-stm_word_both word.In = tt
-stm_word_both word.Instanceof = tt
-stm_word_both word.New = tt
-stm_word_both word.Await = tt
-stm_word_both word.Yield = tt
-stm_word_both word.Var = tt
-stm_word_both word.Return = tt
-stm_word_both word.If = tt
-stm_word_both word.Else = tt
-stm_word_both word.While = tt
-stm_word_both word.For = tt
-
-stm_punctuator_both : (p : Punctuator) → T (both (stm_punctuator p))
-stm_punctuator_both punctuator.OpenParen = tt
-stm_punctuator_both punctuator.CloseParen = tt
-stm_punctuator_both punctuator.OpenBracket = tt
-stm_punctuator_both punctuator.CloseBracket = tt
-stm_punctuator_both punctuator.OpenBrace = tt
-stm_punctuator_both punctuator.CloseBrace = tt
-stm_punctuator_both punctuator.Semicolon = tt
-stm_punctuator_both punctuator.Comma = tt
-stm_punctuator_both punctuator.Dot = tt
-stm_punctuator_both punctuator.Colon = tt
-stm_punctuator_both punctuator.Question = tt
-stm_punctuator_both punctuator.QuestionDot = tt
-stm_punctuator_both punctuator.Arrow = tt
 
 stm_opening_both : (c : Code) → T (both (stm_opening c))
 stm_opening_both code.Name = tt
 stm_opening_both code.Number = tt
 stm_opening_both code.String = tt
-stm_opening_both (code.Word w) = stm_word_both w
-stm_opening_both (code.Punctuator p) = stm_punctuator_both p
+stm_opening_both (code.Word w) = and_r (both (word_do w)) _ (word_both w)
+stm_opening_both (code.Punctuator p) = and_r (both (punctuator_do p [])) _ (punctuator_both p [])
 stm_opening_both (code.Operator o) = tt
 stm_opening_both (code.AssignOperator o) = tt
 
@@ -152,7 +118,7 @@ expr_both (k ∷ ks) = opening_both k.code ks
 
 stm_both : (ks : List Token) → T (both (stm_do ks))
 stm_both [] = tt
-stm_both (k ∷ ks) = either (opens k.code && is_other (code_begin k.code)) plain_do (stm_opening k.code) tt (stm_opening_both k.code)
+stm_both (k ∷ ks) = either both (opens k.code && is_other (code_begin k.code)) plain_do (stm_opening k.code) tt (stm_opening_both k.code)
 
 pub prefix_both : (q : Goal) (ks : List Token) → T (both (prefix (goal_of q) ks))
 prefix_both (Expression p) ks = expr_both ks

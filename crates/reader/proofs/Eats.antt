@@ -8,24 +8,20 @@ use Rattle.grammar.specs.Parser.{Do, fail, fin, eat, sub, peek, more, items, stm
 use Rattle.reader.specs.Table.{goal_of}
 use Rattle.reader.specs.Reads.{eats, own}
 use Rattle.reader.specs.declared.goal.Goal.{Goal}
-use Rattle.reader.proofs.Begun.{prefix_both, frame_both}
-
-either : (b : Bool) (s t : Do) → T (eats s) → T (eats t) → T (eats (cond b s t))
-either true s t h k = h
-either false s t h k = k
+use Rattle.reader.proofs.Begun.{either, prefix_both, frame_both}
 
 settled : (s : Do) (ks : List Token) → T (eats s) → T (eats (settle s ks))
 settled fail ks h = tt
 settled (fin f) ks h = h
 settled (eat c s) ks h = tt
 settled (sub m q s) ks h = h
-settled (peek c s t) ks h = either (starts c ks) _ _ (settled s ks (and_l (eats s) _ h)) (settled t ks (and_r (eats s) _ h))
-settled (more m q s) ks h = either (starts comma ks) (eat comma (sub m q (more m q s))) _ tt (settled s ks h)
-settled (items q c s) ks h = either (starts c ks) (settle s ks) _ (settled s ks h) h
-settled (stms s) ks h = either (at_stop ks) (settle s ks) _ (settled s ks h) h
-settled (operand s t) ks h = either (first_opens ks) _ _ (settled s ks (and_l (eats s) _ h)) (settled t ks (and_r (eats s) _ h))
+settled (peek c s t) ks h = either eats (starts c ks) _ _ (settled s ks (and_l (eats s) _ h)) (settled t ks (and_r (eats s) _ h))
+settled (more m q s) ks h = either eats (starts comma ks) (eat comma (sub m q (more m q s))) _ tt (settled s ks h)
+settled (items q c s) ks h = either eats (starts c ks) (settle s ks) _ (settled s ks h) h
+settled (stms s) ks h = either eats (at_stop ks) (settle s ks) _ (settled s ks h) h
+settled (operand s t) ks h = either eats (first_opens ks) _ _ (settled s ks (and_l (eats s) _ h)) (settled t ks (and_r (eats s) _ h))
 settled (names s) ks h = h
-settled (behind s) ks h = either (starts comma ks) (eat comma (names s)) _ tt (settled s ks h)
+settled (behind s) ks h = either eats (starts comma ks) (eat comma (names s)) _ tt (settled s ks h)
 
 own_by : (b d : Bool) → (T b → T d) → cond b 1 0 ≤ cond d 1 0
 own_by true true h = omega arith

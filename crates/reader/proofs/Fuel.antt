@@ -6,6 +6,7 @@ use Rattle.token.specs.declared.Token.{Token}
 use Rattle.grammar.specs.Tree.{head_of, Tree, depth}
 use Rattle.grammar.specs.Layout.{attr}
 use Rattle.grammar.specs.Parser.{Goal, mode, Do, fail, fin, eat, sub, peek, more, items, stms, operand, names, behind, prefix, frame_do, frame, next, goes_on, settle, Ran, bind, Res, exec, begun, grown_on, parse, loop, perform}
+use Rattle.grammar.proofs.Written.{bind_inv, some_one}
 
 -- o answers no more than o'
 abbrev ◌⊑◌ : {B : Type 0} → Option B → Option B → Type 0
@@ -75,13 +76,6 @@ raise_p n m b q ks x le h = subst (λ k. parse k b q ks ≡ some x) (reach n m l
 
 pub raise_r : (n m : ℕ) (b : Bool) (s : Do) (h : ℕ) (ks : List Token) (y : Ran) → n ≤ m → perform n b s h ks ≡ some y → perform m b s h ks ≡ some y
 raise_r n m b s h ks y le e = subst (λ k. perform k b s h ks ≡ some y) (reach n m le) (up_r (m - n) n b s h ks y e)
-
-pub bind_inv : {A B : Type 0} (o : Option A) (f : A → Option B) (z : B) → bind o f ≡ some z → (x : A) × (o ≡ some x) × (f x ≡ some z)
-bind_inv none f z h = absurd (none-ne-some z h)
-bind_inv (some x) f z h = (x, refl, h)
-
-pub some_one : {A : Type 0} (x y : A) → ◌≡◌ {A = Option A} (some x) (some y) → x ≡ y
-some_one x y h = cc
 
 grow_by : (n : ℕ) (b : Bool) (q : Goal) (t : Tree) (ks : List Token) (u : Tree) (r : List Token) (g : Bool) → ((v : Tree) (js : List Token) → loop n b q v js ≡ some (u, r) → depth v ≤ depth u) → cond g (bind (perform n b (frame_do (next ks) (attr t).standing) (head_of t).hi ks) (λ y. loop n b q (grown_on t y) y.left)) (some (t, ks)) ≡ some (u, r) → depth t ≤ depth u
 unfolding depth

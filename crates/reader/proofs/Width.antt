@@ -9,7 +9,7 @@ use Rattle.grammar.specs.Layout.{attr}
 use Rattle.grammar.specs.Parser.{Goal, mode, Do, fail, fin, eat, sub, peek, more, items, stms, operand, names, behind, prefix, frame_do, frame, next, goes_on, settle, Ran, ran, bind, exec, begun, grown_on, parse, loop, perform}
 use Rattle.reader.specs.Reads.{own}
 use Rattle.reader.specs.Width.{plain, not_script}
-use Rattle.reader.proofs.Fuel.{bind_inv, some_one}
+use Rattle.grammar.proofs.Written.{bind_inv, some_one}
 use Rattle.reader.proofs.Eats.{own_settle, own_true, frame_eats}
 use Rattle.reader.proofs.Plain.{settled, prefix_plain, frame_plain, goal_eats}
 

@@ -2,6 +2,7 @@
 --
 --   Peeked ks c   c is the code of the first token of ks, if there is one
 --   goal_of mode_of do_of     the goal, the mode, and what is left to do, that a value of the code stands for
+--   do_or_fail    the same, or that there is nothing to do
 --   to_do         the next thing to do
 --   turn_of       what a token does behind an expression
 --   linked        the form of a member or a call
@@ -127,7 +128,6 @@ abbrev pub any : Do → Do
 any s = sub parser.free (parser.ex slot.Expression) s
 
 abbrev pub do_of : Rest → Do
-do_of rest.Fail = fail
 do_of (rest.Done f) = fin f
 do_of (rest.Token c f) = eat c (fin f)
 do_of (rest.Last m q f) = sub (mode_of m) (goal_of q) (fin f)
@@ -183,8 +183,12 @@ do_of (rest.Bound d) = peek equals (eat equals (value (behind (var_end d)))) (be
 do_of (rest.Value d) = value (behind (var_end d))
 do_of (rest.MoreNames d) = behind (var_end d)
 
+-- Where nothing begins, what is left to do fails.
+abbrev pub do_or_fail : Option Rest → Do
+do_or_fail None = fail
+do_or_fail (Some r) = do_of r
+
 abbrev pub to_do : Step → Do
-to_do step.Fail = fail
 to_do (step.Finish f) = fin f
 to_do (step.Eat c r) = eat c (do_of r)
 to_do (step.Read m q r) = sub (mode_of m) (goal_of q) (do_of r)

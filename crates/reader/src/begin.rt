@@ -5,7 +5,7 @@ ghost use Rattle.grammar.specs.Parser.{prefix, expr_do, stm_do, word_do, punctua
 ghost use Rattle.grammar.specs.Layout.{code_begin};
 ghost use Rattle.kinds.specs.Codes.{constant_code, unary_code};
 ghost use Rattle.grammar.specs.Site.{is_other};
-ghost use Rattle.reader.specs.Table.{do_of, goal_of};
+ghost use Rattle.reader.specs.Table.{do_of, do_or_fail, goal_of};
 ghost use Rattle.token.specs.declared.Code.TheVariants as code;
 ghost use Rattle.kinds.specs.declared.form.Form.TheVariants as form;
 
@@ -49,86 +49,79 @@ fn update(operator: UpdateOperator) -> Rest
 }
 
 /// An expression that begins with a word.
-fn word_begins(word: Word) -> Rest
-    ensures { do_of result ≡ word_do word }
+fn word_begins(word: Word) -> Option<Rest>
+    ensures { do_or_fail result ≡ word_do word }
 {
     match word {
-        Word::Null => constant(Constant::Null),
-        Word::True => constant(Constant::True),
-        Word::False => constant(Constant::False),
-        Word::This => Rest::Token(Code::Word(Word::This), Form::This),
-        Word::Function => Rest::Function,
-        Word::Typeof => unary(UnaryOperator::Typeof),
-        Word::Void => unary(UnaryOperator::Void),
-        Word::Delete => unary(UnaryOperator::Delete),
-        Word::New => Rest::New,
-        Word::Await => operated(Code::Word(Word::Await), Form::Await),
-        Word::Yield => Rest::Yield,
-        _ => Rest::Fail,
+        Word::Null => Some(constant(Constant::Null)),
+        Word::True => Some(constant(Constant::True)),
+        Word::False => Some(constant(Constant::False)),
+        Word::This => Some(Rest::Token(Code::Word(Word::This), Form::This)),
+        Word::Function => Some(Rest::Function),
+        Word::Typeof => Some(unary(UnaryOperator::Typeof)),
+        Word::Void => Some(unary(UnaryOperator::Void)),
+        Word::Delete => Some(unary(UnaryOperator::Delete)),
+        Word::New => Some(Rest::New),
+        Word::Await => Some(operated(Code::Word(Word::Await), Form::Await)),
+        Word::Yield => Some(Rest::Yield),
+        _ => None,
     }
 }
 
 /// An expression that begins with a punctuator, with the tokens behind it ahead.
-fn punctuator_begins(ahead: &[Token], punctuator: Punctuator) -> Rest
-    ensures { do_of result ≡ punctuator_do punctuator ahead.now }
+fn punctuator_begins(ahead: &[Token], punctuator: Punctuator) -> Option<Rest>
+    ensures { do_or_fail result ≡ punctuator_do punctuator ahead.now }
 {
     match punctuator {
-        Punctuator::OpenParen => {
-            if arrow_behind(ahead) {
-                Rest::Open(List::ArrowParameters)
-            } else {
-                Rest::Enclosed(
-                    Code::Punctuator(Punctuator::OpenParen),
-                    Goal::Expression(Slot::Expression),
-                    Code::Punctuator(Punctuator::CloseParen),
-                    Form::Paren,
-                )
-            }
-        }
-        Punctuator::OpenBracket => Rest::Open(List::Elements),
-        Punctuator::OpenBrace => Rest::Open(List::Properties),
-        _ => Rest::Fail,
+        Punctuator::OpenParen if arrow_behind(ahead) => Some(Rest::Open(List::ArrowParameters)),
+        Punctuator::OpenParen => Some(Rest::Enclosed(
+            Code::Punctuator(Punctuator::OpenParen),
+            Goal::Expression(Slot::Expression),
+            Code::Punctuator(Punctuator::CloseParen),
+            Form::Paren,
+        )),
+        Punctuator::OpenBracket => Some(Rest::Open(List::Elements)),
+        Punctuator::OpenBrace => Some(Rest::Open(List::Properties)),
+        _ => None,
     }
 }
 
 /// An expression that begins with an operator.
-fn operator_begins(operator: Operator) -> Rest
-    ensures { do_of result ≡ operator_do operator }
+fn operator_begins(operator: Operator) -> Option<Rest>
+    ensures { do_or_fail result ≡ operator_do operator }
 {
     match operator {
-        Operator::Not => unary(UnaryOperator::Not),
-        Operator::BitNot => unary(UnaryOperator::BitNot),
-        Operator::Plus => unary(UnaryOperator::Plus),
-        Operator::Minus => unary(UnaryOperator::Minus),
-        Operator::Increment => update(UpdateOperator::Increment),
-        Operator::Decrement => update(UpdateOperator::Decrement),
-        _ => Rest::Fail,
+        Operator::Not => Some(unary(UnaryOperator::Not)),
+        Operator::BitNot => Some(unary(UnaryOperator::BitNot)),
+        Operator::Plus => Some(unary(UnaryOperator::Plus)),
+        Operator::Minus => Some(unary(UnaryOperator::Minus)),
+        Operator::Increment => Some(update(UpdateOperator::Increment)),
+        Operator::Decrement => Some(update(UpdateOperator::Decrement)),
+        _ => None,
     }
 }
 
 /// An expression that begins with a token of this code, with the tokens behind it ahead.
-fn code_begins(ahead: &[Token], code: Code) -> Rest
-    ensures { do_of result ≡ opening code ahead.now }
+fn code_begins(ahead: &[Token], code: Code) -> Option<Rest>
+    ensures { do_or_fail result ≡ opening code ahead.now }
 {
     match code {
-        Code::Name => Rest::Token(Code::Name, Form::Name(Binding::Plain)),
-        Code::Number => Rest::Token(Code::Number, Form::Num),
-        Code::String => Rest::Token(Code::String, Form::Str),
+        Code::Name => Some(Rest::Token(Code::Name, Form::Name(Binding::Plain))),
+        Code::Number => Some(Rest::Token(Code::Number, Form::Num)),
+        Code::String => Some(Rest::Token(Code::String, Form::Str)),
         Code::Word(word) => word_begins(word),
         Code::Punctuator(punctuator) => punctuator_begins(ahead, punctuator),
         Code::Operator(operator) => operator_begins(operator),
-        Code::AssignOperator(_) => Rest::Fail,
+        Code::AssignOperator(_) => None,
     }
 }
 
 /// The expression that is ahead.
-fn expression(ahead: &[Token]) -> Rest
-    ensures { do_of result ≡ expr_do ahead.now }
+fn expression(ahead: &[Token]) -> Option<Rest>
+    ensures { do_or_fail result ≡ expr_do ahead.now }
 {
-    match ahead.split_first() {
-        Some((token, behind)) => code_begins(behind, token.code),
-        None => Rest::Fail,
-    }
+    let (token, behind) = ahead.split_first()?;
+    code_begins(behind, token.code)
 }
 
 /// Whether a statement cannot begin with a token of this code as an expression does: `{` and `function`.
@@ -142,50 +135,53 @@ fn begins_otherwise(code: Code) -> bool
 }
 
 /// A statement that begins with a word.
-fn statement_word(word: Word) -> Rest
-    ensures { do_of result ≡ stm_word word }
+fn statement_word(word: Word) -> Option<Rest>
+    ensures { do_or_fail result ≡ stm_word word }
 {
     match word {
-        Word::Var => Rest::Var(Declared::Statement),
-        Word::Return => Rest::Return,
-        Word::If => Rest::Test(Tested::If),
-        Word::While => Rest::Test(Tested::While),
-        Word::For => Rest::For,
-        _ => Rest::Fail,
+        Word::Var => Some(Rest::Var(Declared::Statement)),
+        Word::Return => Some(Rest::Return),
+        Word::If => Some(Rest::Test(Tested::If)),
+        Word::While => Some(Rest::Test(Tested::While)),
+        Word::For => Some(Rest::For),
+        _ => None,
     }
 }
 
 /// A statement that begins with a punctuator.
-fn statement_punctuator(punctuator: Punctuator) -> Rest
-    ensures { do_of result ≡ stm_punctuator punctuator }
+fn statement_punctuator(punctuator: Punctuator) -> Option<Rest>
+    ensures { do_or_fail result ≡ stm_punctuator punctuator }
 {
     match punctuator {
-        Punctuator::OpenBrace => Rest::Block,
-        Punctuator::Semicolon => Rest::Token(Code::Punctuator(Punctuator::Semicolon), Form::Empty),
-        _ => Rest::Fail,
+        Punctuator::OpenBrace => Some(Rest::Block),
+        Punctuator::Semicolon => Some(Rest::Token(
+            Code::Punctuator(Punctuator::Semicolon),
+            Form::Empty,
+        )),
+        _ => None,
     }
 }
 
 /// A statement that begins with a token of this code, but not with an expression.
-fn statement_code(code: Code) -> Rest
-    ensures { do_of result ≡ stm_opening code }
+fn statement_code(code: Code) -> Option<Rest>
+    ensures { do_or_fail result ≡ stm_opening code }
 {
     match code {
         Code::Word(word) => statement_word(word),
         Code::Punctuator(punctuator) => statement_punctuator(punctuator),
-        _ => Rest::Fail,
+        _ => None,
     }
 }
 
 /// The statement that is ahead.
-fn statement(ahead: &[Token]) -> Rest
-    ensures { do_of result ≡ stm_do ahead.now }
+fn statement(ahead: &[Token]) -> Option<Rest>
+    ensures { do_or_fail result ≡ stm_do ahead.now }
 {
-    match peek(ahead) {
-        Some(code) if opens(code) && begins_otherwise(code) => Rest::Plain,
-        Some(code) => statement_code(code),
-        None => Rest::Fail,
+    let code = peek(ahead)?;
+    if opens(code) && begins_otherwise(code) {
+        return Some(Rest::Plain);
     }
+    statement_code(code)
 }
 
 /// Whether the Name that is ahead has a value next to it.
@@ -200,16 +196,16 @@ fn binding(ahead: &[Token]) -> Binding
     }
 }
 
-/// What is to be read for the goal, by the tokens ahead.
-pub fn begin(ahead: &[Token], goal: Goal) -> Rest
-    ensures { do_of result ≡ prefix (goal_of goal) ahead.now }
+/// What is to be read for the goal, by the tokens ahead, if it can begin so.
+pub fn begin(ahead: &[Token], goal: Goal) -> Option<Rest>
+    ensures { do_or_fail result ≡ prefix (goal_of goal) ahead.now }
 {
     match goal {
         Goal::Expression(_) => expression(ahead),
         Goal::Statement => statement(ahead),
-        Goal::Block => Rest::Block,
-        Goal::Declaration => Rest::Var(Declared::Head),
-        Goal::Property => Rest::Property,
-        Goal::Name => Rest::Token(Code::Name, Form::Name(binding(ahead))),
+        Goal::Block => Some(Rest::Block),
+        Goal::Declaration => Some(Rest::Var(Declared::Head)),
+        Goal::Property => Some(Rest::Property),
+        Goal::Name => Some(Rest::Token(Code::Name, Form::Name(binding(ahead)))),
     }
 }

@@ -31,6 +31,7 @@ pub fn at_stop(ahead: &[Token]) -> bool
 }
 
 /// Whether a token of this code can begin an expression.
+// Not `code_begins(&[], code).is_some()`: that makes up tokens behind this one, to find a Rest that is thrown away.
 pub fn opens(code: Code) -> bool
     ensures { result ≡ opens code }
 {
@@ -75,21 +76,18 @@ pub fn opens_at(ahead: &[Token]) -> bool
 }
 
 /// Whether `=>` follows the `)` that closes the parenthesis whose inside is ahead.
-#[tactic(auto, using(token::proofs::Derived::same_derived))]
 pub fn arrow_behind(ahead: &[Token]) -> bool
     ensures { result ≡ starts arrow (skip 0 ahead.now) }
 {
     let mut open: usize = 0;
-    let mut rest = ahead;
-    while let Some((token, behind)) = rest.split_first() {
-        rest = behind;
-        if token.code == Code::Punctuator(Punctuator::OpenParen) {
-            open += 1;
-        } else if token.code == Code::Punctuator(Punctuator::CloseParen) {
-            if open == 0 {
-                return sees(behind, Code::Punctuator(Punctuator::Arrow));
+    for (i, token) in ahead.iter().enumerate() {
+        match token.code {
+            Code::Punctuator(Punctuator::OpenParen) => open += 1,
+            Code::Punctuator(Punctuator::CloseParen) if open == 0 => {
+                return sees(&ahead[i + 1..], Code::Punctuator(Punctuator::Arrow));
             }
-            open -= 1;
+            Code::Punctuator(Punctuator::CloseParen) => open -= 1,
+            _ => {}
         }
     }
     false

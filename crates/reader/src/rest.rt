@@ -58,8 +58,6 @@ pub enum Declared {
 // A value and no closure: a closure that is kept has to be boxed, which needs a heap.
 #[derive(Clone, Copy, PartialEq, Eq, Debug)]
 pub enum Rest {
-    /// Nothing begins so.
-    Fail,
     /// Nothing: the record is of this form.
     Done(Form),
     /// One token.
@@ -125,9 +123,9 @@ pub enum Rest {
     /// The object of a `for .. in`.
     ForObject,
     /// A `for` behind its first `;`, from its second, behind it; which parts before are there.
-    ForTest(bool),
-    ForSecond(bool),
-    ForUpdate(bool, bool),
+    ForTest { init: bool },
+    ForSecond { init: bool },
+    ForUpdate { init: bool, test: bool },
     /// A property; its computed key, and the `]` behind it.
     Property,
     ComputedKey,

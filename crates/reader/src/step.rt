@@ -1,7 +1,7 @@
 // The next step of a record: which token or child comes next, or that it is complete.
 
-ghost use Rattle.std.specs.Prelude.{◌≡◌};
-ghost use Rattle.grammar.specs.Parser.{settle};
+ghost use Rattle.std.specs.Prelude.{◌≡◌, cond};
+ghost use Rattle.grammar.specs.Parser.{eat, settle, starts};
 ghost use Rattle.reader.specs.declared.rest.Rest.TheVariants.{MoreNames, Link as LinkRest, ForInit};
 ghost use Rattle.reader.specs.Table.{do_of, to_do, part_of, open_of, close_of, behind_of, parts_of, more_of, body_end, tested_end, var_end};
 
@@ -14,14 +14,23 @@ use token::{AssignOperator, Code, Punctuator, Token, Word};
 /// The next thing to do.
 #[derive(Clone, Copy, PartialEq, Eq, Debug)]
 pub enum Step {
-    /// There is no such record.
-    Fail,
     /// The record is complete.
     Finish(Form),
     /// Eat this token.
     Eat(Code, Rest),
     /// Read a child.
     Read(Mode, Goal, Rest),
+}
+
+/// Eats the next token if it is `code`, and goes on with `then`; else does the other step.
+fn eat_or(ahead: &[Token], code: Code, then: Rest, other: Step) -> Step
+    ensures { to_do result ≡ cond (starts code ahead.now) (eat code (do_of then)) (to_do other) }
+{
+    if sees(ahead, code) {
+        Step::Eat(code, then)
+    } else {
+        other
+    }
 }
 
 /// What the parts of a list are.
@@ -66,23 +75,25 @@ fn items(ahead: &[Token], list: List) -> Step
     ensures { to_do result ≡ settle (parts_of list) ahead.now }
 {
     let (_, close) = brackets(list);
-    if sees(ahead, close) {
-        Step::Eat(close, behind_list(list))
-    } else {
-        Step::Read(Mode::Free, part(list), Rest::More(list))
-    }
+    eat_or(
+        ahead,
+        close,
+        behind_list(list),
+        Step::Read(Mode::Free, part(list), Rest::More(list)),
+    )
 }
 
 /// A list behind one of its parts.
 fn more(ahead: &[Token], list: List) -> Step
     ensures { to_do result ≡ settle (more_of list) ahead.now }
 {
-    if sees(ahead, Code::Punctuator(Punctuator::Comma)) {
-        Step::Eat(Code::Punctuator(Punctuator::Comma), Rest::Next(list))
-    } else {
-        let (_, close) = brackets(list);
-        Step::Eat(close, behind_list(list))
-    }
+    let (_, close) = brackets(list);
+    eat_or(
+        ahead,
+        Code::Punctuator(Punctuator::Comma),
+        Rest::Next(list),
+        Step::Eat(close, behind_list(list)),
+    )
 }
 
 /// The end of a run of statements.
@@ -115,11 +126,12 @@ fn var_end(declared: Declared) -> Step
 fn more_names(ahead: &[Token], declared: Declared) -> Step
     ensures { to_do result ≡ settle (do_of (MoreNames declared)) ahead.now }
 {
-    if sees(ahead, Code::Punctuator(Punctuator::Comma)) {
-        Step::Eat(Code::Punctuator(Punctuator::Comma), Rest::Names(declared))
-    } else {
-        var_end(declared)
-    }
+    eat_or(
+        ahead,
+        Code::Punctuator(Punctuator::Comma),
+        Rest::Names(declared),
+        var_end(declared),
+    )
 }
 
 /// What is left behind the body.
@@ -136,47 +148,42 @@ fn behind_body(tested: Tested) -> Rest
 fn link(ahead: &[Token]) -> Step
     ensures { to_do result ≡ settle (do_of LinkRest) ahead.now }
 {
-    if sees(ahead, Code::Punctuator(Punctuator::OpenParen)) {
-        Step::Eat(
-            Code::Punctuator(Punctuator::OpenParen),
-            Rest::Items(List::Arguments(Form::Chain(Link::Call, Entry::Optional))),
-        )
-    } else if sees(ahead, Code::Punctuator(Punctuator::OpenBracket)) {
-        Step::Eat(
+    eat_or(
+        ahead,
+        Code::Punctuator(Punctuator::OpenParen),
+        Rest::Items(List::Arguments(Form::Chain(Link::Call, Entry::Optional))),
+        eat_or(
+            ahead,
             Code::Punctuator(Punctuator::OpenBracket),
             Rest::Closed(
                 Goal::Expression(Slot::Expression),
                 Code::Punctuator(Punctuator::CloseBracket),
                 Form::Chain(Link::Key, Entry::Optional),
             ),
-        )
-    } else {
-        Step::Read(
-            Mode::Free,
-            Goal::Expression(Slot::Identifier),
-            Rest::Done(Form::Chain(Link::Name, Entry::Optional)),
-        )
-    }
+            Step::Read(
+                Mode::Free,
+                Goal::Expression(Slot::Identifier),
+                Rest::Done(Form::Chain(Link::Name, Entry::Optional)),
+            ),
+        ),
+    )
 }
 
 /// A `for`, behind its `(`.
 fn for_init(ahead: &[Token]) -> Step
     ensures { to_do result ≡ settle (do_of ForInit) ahead.now }
 {
-    if sees(ahead, Code::Punctuator(Punctuator::Semicolon)) {
-        Step::Eat(
-            Code::Punctuator(Punctuator::Semicolon),
-            Rest::ForTest(false),
-        )
-    } else if sees(ahead, Code::Word(Word::Var)) {
-        Step::Read(Mode::Shut, Goal::Declaration, Rest::ForHead)
+    let first = if sees(ahead, Code::Word(Word::Var)) {
+        Goal::Declaration
     } else {
-        Step::Read(
-            Mode::Shut,
-            Goal::Expression(Slot::Expression),
-            Rest::ForHead,
-        )
-    }
+        Goal::Expression(Slot::Expression)
+    };
+    eat_or(
+        ahead,
+        Code::Punctuator(Punctuator::Semicolon),
+        Rest::ForTest { init: false },
+        Step::Read(Mode::Shut, first, Rest::ForHead),
+    )
 }
 
 /// The next step of what is left to read, by the next token.
@@ -184,7 +191,6 @@ pub fn next_step(ahead: &[Token], rest: Rest) -> Step
     ensures { to_do result ≡ settle (do_of rest) ahead.now }
 {
     match rest {
-        Rest::Fail => Step::Fail,
         Rest::Done(form) => Step::Finish(form),
         Rest::Token(code, form) => Step::Eat(code, Rest::Done(form)),
         Rest::Last(mode, goal, form) => Step::Read(mode, goal, Rest::Done(form)),
@@ -214,32 +220,24 @@ pub fn next_step(ahead: &[Token], rest: Rest) -> Step
             }
         }
         Rest::Function => Step::Eat(Code::Word(Word::Function), Rest::FunctionHead),
-        Rest::FunctionHead => {
-            if sees(ahead, Code::Punctuator(Punctuator::OpenParen)) {
-                Step::Eat(
-                    Code::Punctuator(Punctuator::OpenParen),
-                    Rest::Items(List::Parameters(Own::Nameless)),
-                )
-            } else {
-                Step::Read(
-                    Mode::Free,
-                    Goal::Expression(Slot::Identifier),
-                    Rest::Open(List::Parameters(Own::Named)),
-                )
-            }
-        }
+        Rest::FunctionHead => eat_or(
+            ahead,
+            Code::Punctuator(Punctuator::OpenParen),
+            Rest::Items(List::Parameters(Own::Nameless)),
+            Step::Read(
+                Mode::Free,
+                Goal::Expression(Slot::Identifier),
+                Rest::Open(List::Parameters(Own::Named)),
+            ),
+        ),
         Rest::New => Step::Eat(Code::Word(Word::New), Rest::NewCallee),
         Rest::NewCallee => Step::Read(Mode::Same, Goal::Expression(Slot::New), Rest::NewArguments),
-        Rest::NewArguments => {
-            if sees(ahead, Code::Punctuator(Punctuator::OpenParen)) {
-                Step::Eat(
-                    Code::Punctuator(Punctuator::OpenParen),
-                    Rest::Items(List::Arguments(Form::New(Arguments::Listed))),
-                )
-            } else {
-                Step::Finish(Form::New(Arguments::Unlisted))
-            }
-        }
+        Rest::NewArguments => eat_or(
+            ahead,
+            Code::Punctuator(Punctuator::OpenParen),
+            Rest::Items(List::Arguments(Form::New(Arguments::Listed))),
+            Step::Finish(Form::New(Arguments::Unlisted)),
+        ),
         Rest::Yield => Step::Eat(Code::Word(Word::Yield), Rest::YieldOperand),
         Rest::YieldOperand => {
             if opens_at(ahead) {
@@ -258,13 +256,12 @@ pub fn next_step(ahead: &[Token], rest: Rest) -> Step
             Goal::Expression(Slot::Assignment),
             Rest::MoreElements,
         ),
-        Rest::MoreElements => {
-            if sees(ahead, Code::Punctuator(Punctuator::Comma)) {
-                Step::Eat(Code::Punctuator(Punctuator::Comma), Rest::Element)
-            } else {
-                Step::Finish(Form::Seq)
-            }
-        }
+        Rest::MoreElements => eat_or(
+            ahead,
+            Code::Punctuator(Punctuator::Comma),
+            Rest::Element,
+            Step::Finish(Form::Seq),
+        ),
         Rest::Question => Step::Eat(Code::Punctuator(Punctuator::Question), Rest::Middle),
         Rest::Middle => Step::Read(
             Mode::Free,
@@ -310,59 +307,49 @@ pub fn next_step(ahead: &[Token], rest: Rest) -> Step
             )
         }
         Rest::TestBody(tested) => Step::Read(Mode::Free, Goal::Statement, behind_body(tested)),
-        Rest::Else => {
-            if sees(ahead, Code::Word(Word::Else)) {
-                Step::Eat(
-                    Code::Word(Word::Else),
-                    Rest::Last(Mode::Free, Goal::Statement, Form::If),
-                )
-            } else {
-                Step::Finish(Form::If)
-            }
-        }
+        Rest::Else => eat_or(
+            ahead,
+            Code::Word(Word::Else),
+            Rest::Last(Mode::Free, Goal::Statement, Form::If),
+            Step::Finish(Form::If),
+        ),
         Rest::Return => Step::Eat(Code::Word(Word::Return), Rest::ReturnValue),
-        Rest::ReturnValue => {
-            if sees(ahead, Code::Punctuator(Punctuator::Semicolon)) {
-                Step::Eat(
-                    Code::Punctuator(Punctuator::Semicolon),
-                    Rest::Done(Form::Return),
-                )
-            } else {
-                Step::Read(
-                    Mode::Free,
-                    Goal::Expression(Slot::Expression),
-                    Rest::Token(Code::Punctuator(Punctuator::Semicolon), Form::Return),
-                )
-            }
-        }
+        Rest::ReturnValue => eat_or(
+            ahead,
+            Code::Punctuator(Punctuator::Semicolon),
+            Rest::Done(Form::Return),
+            Step::Read(
+                Mode::Free,
+                Goal::Expression(Slot::Expression),
+                Rest::Token(Code::Punctuator(Punctuator::Semicolon), Form::Return),
+            ),
+        ),
         Rest::Plain => Step::Read(
             Mode::Free,
             Goal::Expression(Slot::Expression),
             Rest::PlainEnd,
         ),
-        Rest::PlainEnd => {
-            if sees(ahead, Code::Punctuator(Punctuator::Colon)) {
-                Step::Eat(
-                    Code::Punctuator(Punctuator::Colon),
-                    Rest::Last(Mode::Free, Goal::Statement, Form::Labeled),
-                )
-            } else {
-                Step::Eat(
-                    Code::Punctuator(Punctuator::Semicolon),
-                    Rest::Done(Form::ExprStmt),
-                )
-            }
-        }
+        Rest::PlainEnd => eat_or(
+            ahead,
+            Code::Punctuator(Punctuator::Colon),
+            Rest::Last(Mode::Free, Goal::Statement, Form::Labeled),
+            Step::Eat(
+                Code::Punctuator(Punctuator::Semicolon),
+                Rest::Done(Form::ExprStmt),
+            ),
+        ),
         Rest::For => Step::Eat(Code::Word(Word::For), Rest::ForOpen),
         Rest::ForOpen => Step::Eat(Code::Punctuator(Punctuator::OpenParen), Rest::ForInit),
         Rest::ForInit => for_init(ahead),
-        Rest::ForHead => {
-            if sees(ahead, Code::Word(Word::In)) {
-                Step::Eat(Code::Word(Word::In), Rest::ForObject)
-            } else {
-                Step::Eat(Code::Punctuator(Punctuator::Semicolon), Rest::ForTest(true))
-            }
-        }
+        Rest::ForHead => eat_or(
+            ahead,
+            Code::Word(Word::In),
+            Rest::ForObject,
+            Step::Eat(
+                Code::Punctuator(Punctuator::Semicolon),
+                Rest::ForTest { init: true },
+            ),
+        ),
         Rest::ForObject => Step::Read(
             Mode::Free,
             Goal::Expression(Slot::Expression),
@@ -373,73 +360,64 @@ pub fn next_step(ahead: &[Token], rest: Rest) -> Step
                 Form::ForIn,
             ),
         ),
-        Rest::ForTest(init) => {
-            if sees(ahead, Code::Punctuator(Punctuator::Semicolon)) {
-                Step::Eat(
-                    Code::Punctuator(Punctuator::Semicolon),
-                    Rest::ForUpdate(init, false),
-                )
-            } else {
-                Step::Read(
-                    Mode::Free,
-                    Goal::Expression(Slot::Expression),
-                    Rest::ForSecond(init),
-                )
-            }
-        }
-        Rest::ForSecond(init) => {
+        Rest::ForTest { init } => eat_or(
+            ahead,
+            Code::Punctuator(Punctuator::Semicolon),
+            Rest::ForUpdate { init, test: false },
+            Step::Read(
+                Mode::Free,
+                Goal::Expression(Slot::Expression),
+                Rest::ForSecond { init },
+            ),
+        ),
+        Rest::ForSecond { init } => {
             Step::Eat(
                 Code::Punctuator(Punctuator::Semicolon),
-                Rest::ForUpdate(init, true),
+                Rest::ForUpdate { init, test: true },
             )
         }
-        Rest::ForUpdate(init, test) => {
-            if sees(ahead, Code::Punctuator(Punctuator::CloseParen)) {
-                Step::Eat(
+        Rest::ForUpdate { init, test } => eat_or(
+            ahead,
+            Code::Punctuator(Punctuator::CloseParen),
+            Rest::Last(
+                Mode::Free,
+                Goal::Statement,
+                Form::For {
+                    init,
+                    test,
+                    update: false,
+                },
+            ),
+            Step::Read(
+                Mode::Free,
+                Goal::Expression(Slot::Expression),
+                Rest::TokenLast(
                     Code::Punctuator(Punctuator::CloseParen),
-                    Rest::Last(
-                        Mode::Free,
-                        Goal::Statement,
-                        Form::For {
-                            init,
-                            test,
-                            update: false,
-                        },
-                    ),
-                )
-            } else {
-                Step::Read(
                     Mode::Free,
-                    Goal::Expression(Slot::Expression),
-                    Rest::TokenLast(
-                        Code::Punctuator(Punctuator::CloseParen),
-                        Mode::Free,
-                        Goal::Statement,
-                        Form::For {
-                            init,
-                            test,
-                            update: true,
-                        },
-                    ),
-                )
-            }
-        }
-        Rest::Property => {
-            if sees(ahead, Code::Punctuator(Punctuator::OpenBracket)) {
-                Step::Eat(Code::Punctuator(Punctuator::OpenBracket), Rest::ComputedKey)
-            } else {
-                Step::Read(
+                    Goal::Statement,
+                    Form::For {
+                        init,
+                        test,
+                        update: true,
+                    },
+                ),
+            ),
+        ),
+        Rest::Property => eat_or(
+            ahead,
+            Code::Punctuator(Punctuator::OpenBracket),
+            Rest::ComputedKey,
+            Step::Read(
+                Mode::Free,
+                Goal::Expression(Slot::PropertyName),
+                Rest::TokenLast(
+                    Code::Punctuator(Punctuator::Colon),
                     Mode::Free,
-                    Goal::Expression(Slot::PropertyName),
-                    Rest::TokenLast(
-                        Code::Punctuator(Punctuator::Colon),
-                        Mode::Free,
-                        Goal::Expression(Slot::Assignment),
-                        Form::Prop(Key::Fixed),
-                    ),
-                )
-            }
-        }
+                    Goal::Expression(Slot::Assignment),
+                    Form::Prop(Key::Fixed),
+                ),
+            ),
+        ),
         Rest::ComputedKey => Step::Read(
             Mode::Free,
             Goal::Expression(Slot::Assignment),
@@ -456,16 +434,12 @@ pub fn next_step(ahead: &[Token], rest: Rest) -> Step
         ),
         Rest::Var(declared) => Step::Eat(Code::Word(Word::Var), Rest::Names(declared)),
         Rest::Names(declared) => Step::Read(Mode::Free, Goal::Name, Rest::Bound(declared)),
-        Rest::Bound(declared) => {
-            if sees(ahead, Code::AssignOperator(AssignOperator::Assign)) {
-                Step::Eat(
-                    Code::AssignOperator(AssignOperator::Assign),
-                    Rest::Value(declared),
-                )
-            } else {
-                more_names(ahead, declared)
-            }
-        }
+        Rest::Bound(declared) => eat_or(
+            ahead,
+            Code::AssignOperator(AssignOperator::Assign),
+            Rest::Value(declared),
+            more_names(ahead, declared),
+        ),
         Rest::Value(declared) => {
             Step::Read(
                 Mode::Same,

@@ -2,7 +2,7 @@
 
 ghost use Rattle.std.specs.Prelude.{◌≡◌};
 ghost use Rattle.grammar.specs.Parser.{after, next, word_after, punctuator_after, operator_after, frame, binary_frame, first_slot, is_frame};
-ghost use Rattle.reader.specs.Table.{linked, turn_of, do_of, Turns, Grows};
+ghost use Rattle.reader.specs.Table.{linked, turn_of, do_or_fail, Turns, Grows};
 
 use crate::glance::peek;
 use crate::goal::{Goal, Mode};
@@ -11,6 +11,7 @@ use kinds::{BinaryOperator, Entry, Form, Key, Link, Side, Slot, UpdateOperator, 
 use token::{AssignOperator, Code, Operator, Punctuator, Token, Word};
 
 /// What a token does behind an expression.
+// Ends and Cannot are no one None: the grammar tells an end from a sign that cannot stand there, and `turn_of` says which.
 #[derive(Clone, Copy, PartialEq, Eq, Debug)]
 pub enum Turn {
     /// Stands between two operands.
@@ -62,6 +63,7 @@ fn punctuator_turn(punctuator: Punctuator) -> Turn
     }
 }
 
+// No `BinaryOperator::of(operator)` beside the `From` in kinds: it would hold these same arms, and an Option on top.
 fn operator_turn(operator: Operator) -> Turn
     ensures { turn_of result ≡ operator_after operator }
 {
@@ -155,12 +157,13 @@ fn linked(link: Link, chained: bool) -> Form
     }
 }
 
-/// What is left to read of the record that the token makes of the expression before it; `chained`: this is a link
-/// of an optional chain.
-pub fn behind(turn: Turn, chained: bool) -> Rest
-    ensures { Turns (turn_of turn) chained (do_of result) }
+/// What is left to read of the record that the token makes of the expression before it, if it makes one; `chained`: this
+/// is a link of an optional chain.
+// The forms are not taken from `grown`: that promises a form of the same standing only, not which one it is.
+pub fn behind(turn: Turn, chained: bool) -> Option<Rest>
+    ensures { Turns (turn_of turn) chained (do_or_fail result) }
 {
-    match turn {
+    let rest = match turn {
         Turn::Operates(operator) => Rest::TokenLast(
             Code::from(operator),
             Mode::Same,
@@ -193,8 +196,9 @@ pub fn behind(turn: Turn, chained: bool) -> Rest
         ),
         Turn::Calls => Rest::Open(List::Arguments(linked(Link::Call, chained))),
         Turn::Links => Rest::OptionalSign,
-        Turn::Ends | Turn::Cannot => Rest::Fail,
-    }
+        Turn::Ends | Turn::Cannot => return None,
+    };
+    Some(rest)
 }
 
 /// A form of the standing of the record that the token makes; `chained` as above.

@@ -1,9 +1,15 @@
 -- The exit of a `?`, and what is behind a `map_err`.
-use Rattle.std.proofs.Common.{◌≡◌, Result, Ok, Err, IsErrAnd, MatchResult, sym, ◌∙◌, subst}
+use Rattle.std.proofs.Common.{◌≡◌, Option, Some, None, Result, Ok, Err, IsErrAnd, MatchResult, sym, ◌∙◌, subst}
+use Rattle.std.specs.Option.{ok_or}
 use Rattle.std.proofs.lemmas.Result.{err_from_is_err_and}
 
 pub broke : {X Y : Type 0} (r : Result X Y) (P : X → Type 0) (Q : Y → Type 0) (e : Y) → IsErrAnd r (λ y. y ≡ e) → Q e → MatchResult r P Q
 broke r P Q e h q = let (y, a, b) = err_from_is_err_and r h in rw (a, b) q
+
+-- there was no value, and this error stands for that
+pub lacked : {X Y Z : Type 0} (o : Option X) (y e : Y) (r : Result Z Y) (P : Z → Type 0) (Q : Y → Type 0) → ◌≡◌ {A = Result X Y} (Err e) (ok_or o y) → IsErrAnd r (λ z. z ≡ e) → Q y → MatchResult r P Q
+lacked {X} {Y} None y e r P Q v h q = let one : y ≡ e = cc in broke r P Q e h (subst Q one q)
+lacked {X} {Y} (Some x) y e r P Q v h q = absurd cc
 
 -- a value came through
 pub came_through : {X Y Z : Type 0} (r : Result X Y) (r2 : Result X Z) (F : Y → Z → Type 0) (P : X → Type 0) (Q : Y → Type 0) (x : X) → MatchResult r (λ y. r2 ≡ Ok y) (λ e. IsErrAnd r2 (F e)) → r2 ≡ Ok x → MatchResult r P Q → P x

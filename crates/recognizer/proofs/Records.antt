@@ -1,5 +1,6 @@
 -- The loop over the steps of a record.
 use Rattle.std.proofs.Common.{◌≡◌, ℕ, suc, ◌+◌, ◌≤◌, max, Bool, true, false, ◌&&◌, List, [], ◌∷◌, ◌++◌, length, sym, refl, ap, ◌∙◌, subst, arith}
+use Rattle.std.proofs.Math.Bool.{and-true, and_assoc}
 use mathlib.Core.Option.{Option, none, some, none-ne-some}
 use Rattle.token.specs.Same.{same_code}
 use Rattle.token.specs.declared.Token.{Token}
@@ -10,7 +11,7 @@ use Rattle.grammar.specs.Site.{Attr}
 use Rattle.grammar.specs.Layout.{layout, attr_of, attr, attrs, fit_kids, good, goods}
 use Rattle.fitting.specs.Summary.{Sums}
 use Rattle.fitting.specs.declared.summary.Summary.{Summary}
-use Rattle.grammar.specs.Parser.{Goal, Mode, mode, Do, fail, fin, eat, sub, settle, starts, Ran, ran, bind, exec, parse, perform}
+use Rattle.grammar.specs.Parser.{Goal, Mode, mode, Do, fin, eat, sub, settle, starts, Ran, ran, bind, exec, parse, perform}
 use Rattle.reader.specs.Reads.{own, Bad, NotParsed, graft}
 use Rattle.recognizer.specs.Reads.{Joined, Completed, Behind, Shape, Holds, Shaped, Parsed, Made, NotMade, Carried}
 use Rattle.reader.specs.Rows.{Nested, Pushed}
@@ -19,7 +20,8 @@ use Rattle.recognizer.specs.declared.found.Found.{Found}
 use Rattle.recognizer.specs.declared.found.Parts.{Parts}
 use Rattle.reader.specs.declared.unread.Unread.{Unread}
 use Rattle.reader.specs.declared.unread.Unread.TheVariants.{NoDerivation, TooDeep}
-use Rattle.reader.proofs.Fuel.{raise_r, bind_inv}
+use Rattle.grammar.proofs.Written.{bind_inv, some_one}
+use Rattle.reader.proofs.Fuel.{raise_r}
 use Rattle.reader.proofs.Eats.{own_settle, own_one}
 
 -- Forests.
@@ -65,19 +67,12 @@ graft_child t (some y) = refl
 
 graft_inv : (us : Forest) (o : Option Ran) (y : Ran) → graft us o ≡ some y → (z : Ran) × (o ≡ some z) × (us ⊕ z.kids ≡ y.kids)
 graft_inv us none y h = absurd (none-ne-some y h)
-graft_inv us (some z) y h = (z, refl, ap (λ (x : Ran). x.kids) (the_same (ran z.form (us ⊕ z.kids) z.upto z.left) y h))
-  where
-    the_same : (a c : Ran) → ◌≡◌ {A = Option Ran} (some a) (some c) → a ≡ c
-    the_same a c e = cc
+graft_inv us (some z) y h = (z, refl, ap (λ (x : Ran). x.kids) (some_one (ran z.form (us ⊕ z.kids) z.upto z.left) y h))
 
 -- One step of the grammar's reader.
 step_fin : (m : ℕ) (b : Bool) (s : Do) (h : ℕ) (ks : List Token) (f : Form) → settle s ks ≡ fin f → perform (suc m) b s h ks ≡ some (ran f nil h ks)
 unfolding perform
 step_fin m b s h ks f e = rw e
-
-step_fail : (m : ℕ) (b : Bool) (s : Do) (h : ℕ) (ks : List Token) → settle s ks ≡ fail → perform (suc m) b s h ks ≡ none
-unfolding perform
-step_fail m b s h ks e = rw e
 
 eat_yes : (R : Bool → Do → ℕ → List Token → Option Ran) (P : Bool → Goal → List Token → Option (Tree × List Token)) (b : Bool) (c : Code) (s : Do) (h : ℕ) (ks : List Token) (k : Token) (js : List Token) → ks ≡ k ∷ js → same_code k.code c ≡ true → exec P R b (eat c s) h ks ≡ R b s k.hi js
 eat_yes R P b c s h ks k js e d = rw (e, d)
@@ -104,10 +99,7 @@ sub_inv m b s h ks d q s2 y e g =
     let g2 : exec (parse m) (perform m) b (sub d q s2) h ks ≡ some y = sym (ap (λ (x : Do). exec (parse m) (perform m) b x h ks) e) ∙ g in
     let (x, h1, h2) = bind_inv (parse m (mode d b) q ks) _ y g2 in
     let (z, h3, h4) = bind_inv (perform m b s2 (head_of x.0).hi x.1) _ y h2 in
-    (x.0, x.1, z.kids, h1, ap (λ (a : Ran). a.kids) (the_same (ran z.form (x.0 ▸ z.kids) z.upto z.left) y h4))
-  where
-    the_same : (a c : Ran) → ◌≡◌ {A = Option Ran} (some a) (some c) → a ≡ c
-    the_same a c i = cc
+    (x.0, x.1, z.kids, h1, ap (λ (a : Ran). a.kids) (some_one (ran z.form (x.0 ▸ z.kids) z.upto z.left) y h4))
 
 -- What the parts hold.
 attrs_last : (us : Forest) (t : Tree) → attrs (us ⊕ (t ▸ nil)) ≡ attrs us ++ (attr t ∷ [])
@@ -115,20 +107,12 @@ unfolding attrs
 attrs_last nil t = refl
 attrs_last (u ▸ us) t = ap (λ (cs : List Attr). attr u ∷ cs) (attrs_last us t)
 
-and_assoc : (a b c : Bool) → a && (b && c) ≡ (a && b) && c
-and_assoc true b c = refl
-and_assoc false b c = refl
-
-pub and_true : (a : Bool) → a && true ≡ a
-and_true true = refl
-and_true false = refl
-
 goods_last : (us : Forest) (t : Tree) → goods (us ⊕ (t ▸ nil)) ≡ goods us && good t
 unfolding goods
-goods_last nil t = and_true (good t)
-goods_last (u ▸ us) t = ap (λ (b : Bool). good u && b) (goods_last us t) ∙ and_assoc (good u) (goods us) (good t)
+goods_last nil t = and-true (good t)
+goods_last (u ▸ us) t = ap (λ (b : Bool). good u && b) (goods_last us t) ∙ sym (and_assoc (good u) (goods us) (good t))
 
-holds_same : (us : Forest) (p q : Parts) → q.children ≡ p.children → q.good ≡ p.good → q.size ≡ p.size → q.depth ≡ p.depth → Holds us p → Holds us q
+holds_same : (us : Forest) (p q : Parts) → q.children ≡ p.children → q.good ≡ p.good → q.below.records ≡ p.below.records → q.below.depth ≡ p.below.depth → Holds us p → Holds us q
 holds_same us p q a b d e h = record { children = subst (λ (k : Summary). Sums (attrs us) k) (sym a) h.children; fit = h.fit ∙ sym b; records = h.records ∙ sym d; nests = h.nests ∙ sym e }
 
 holds_join : (us : Forest) (t : Tree) (p q : Parts) (f : Found) (r : Children) → Holds us p → Shape t f → Joined p f r q → Holds (us ⊕ (t ▸ nil)) q
@@ -137,7 +121,7 @@ holds_join us t p q f r h s j =
       children = subst (λ (cs : List Attr). Sums cs q.children) (sym (attrs_last us t ∙ ap (λ (a : Attr). attrs us ++ (a ∷ [])) s.attributes)) (j.children (attrs us) h.children);
       fit = goods_last us t ∙ rw (h.fit, s.fit) (sym j.fit);
       records = sizes_last us t ∙ omega (arith, h.records, s.records, j.records);
-      nests = depths_last us t ∙ rw (h.nests, s.nests, j.nests) (ap (λ (k : ℕ). max p.depth k) (omega arith));
+      nests = depths_last us t ∙ rw (h.nests, s.nests, j.nests) (ap (λ (k : ℕ). max p.below.depth k) (omega arith));
     }
 
 shaped_by : (us : Forest) (p : Parts) (g : Form) (n : ℕ) (f : Found) → Completed p g n f → Holds us p → Shaped us f
@@ -224,9 +208,6 @@ module _ {K : Type 0} (R : K → K → Children → Forest → Type 0) (b : Bool
         let (k, l, g) = w (suc (k0 + n)) (omega arith) in
         let (z, i, j) = graft_inv us (perform (suc (k0 + n)) b s p.hi p.ahead.now) y (sym g ∙ raise_r n k b s0 p0.hi p0.ahead.now y (omega arith) e) in
         (k0 + n, z, i, subst (λ (vs : Forest). depths z.kids ≤ depths vs) j (depths_right us z.kids))
-
-    pub not_fail : (room : ℕ) → settle s p.ahead.now ≡ fail → NotMade b s0 p0 room NoDerivation
-    not_fail room e n y g = let (m, z, i, le) = back n y g in none-ne-some z (sym (step_fail m b s p.hi p.ahead.now e) ∙ i)
 
     pub not_eaten : (room : ℕ) (k : Code) (s2 : Do) → settle s p.ahead.now ≡ eat k s2 → starts k p.ahead.now ≡ false → NotMade b s0 p0 room NoDerivation
     not_eaten room k s2 e d n y g = let (m, z, i, le) = back n y g in none-ne-some z (sym (step_eat_no m b s p.hi p.ahead.now k s2 e d) ∙ i)

@@ -13,9 +13,9 @@ use Rattle.grammar.specs.Derives.{lo_of}
 use Rattle.grammar.specs.Claim as claim
 use Rattle.grammar.specs.Read.{empty, entire, checked, read}
 use Rattle.grammar.specs.Parser.{stm, scr, free, sub, stms, fin, at_stop, Ran, ran, Res, exec, begun, parse, loop, perform}
-use Rattle.grammar.proofs.Tests.{and_l}
-use Rattle.grammar.proofs.Exact.{read_derives, good_derives, derived_good}
-use Rattle.grammar.proofs.Written.{found_written}
+use Rattle.grammar.proofs.Tests.{and_l, is_true}
+use Rattle.grammar.proofs.Exact.{cond_some, read_derives, good_derives, derived_good}
+use Rattle.grammar.proofs.Written.{bind_inv, some_one, found_written}
 use Rattle.reader.specs.Reads.{Reads}
 use Rattle.recognizer.specs.Reads.{Shape, Started, Made, NotMade}
 use Rattle.reader.specs.Width.{NotScript, refused_of}
@@ -24,17 +24,13 @@ use Rattle.recognizer.specs.declared.found.Found.{Found}
 use Rattle.recognizer.specs.declared.found.Parts.{Parts}
 use Rattle.reader.specs.declared.unread.Unread.{Unread}
 use Rattle.reader.specs.declared.unread.Unread.TheVariants.{NoDerivation, TooDeep}
-use Rattle.reader.proofs.Fuel.{raise_p, bind_inv, some_one}
+use Rattle.reader.proofs.Fuel.{raise_p}
 use Rattle.reader.proofs.Width.{width, depth_size, depths_sizes}
 use Rattle.recognizer.proofs.Trees.{shape_node, holds_nil, row_at}
 use Rattle.reader.specs.Rows.{single}
 use Rattle.records.specs.declared.build.Children.{Children}
 
 -- The reading of a script is what the grammar's reader finds.
-cond_some : {A : Type 0} (b : Bool) (x y : A) → cond b (some x) none ≡ some y → T b × (x ≡ y)
-cond_some true x y h = (tt, some_one x y h)
-cond_some false x y h = absurd (none-ne-some y h)
-
 no_rest : (r : List Token) → T (empty r) → r ≡ []
 no_rest [] h = refl
 no_rest (k ∷ ks) h = absurd h
@@ -71,10 +67,6 @@ scripts : (n : ℕ) (b : Bool) (g : Form) (h : ℕ) (ks : List Token) (y : Ran) 
 unfolding perform
 scripts zero b g h ks y e = absurd (none-ne-some y e)
 scripts (suc n) b g h ks y e = scripts_by n b g h ks y (at_stop ks) (λ j js w. scripts n b g j js w) e
-
-T_true : (b : Bool) → T b → b ≡ true
-T_true true h = refl
-T_true false h = absurd h
 
 depth_begun : (ts : List Token) (y : Ran) → depth (begun ts y) ≡ 1 + depths y.kids
 unfolding depth
@@ -160,12 +152,12 @@ begun_script ts y e = subst (λ (g : Form). T (eqb 6 (sort_rank (sort_of g)))) (
 module _ {K : Type 0} (ts : List Token) (R : K → K → Children → Forest → Type 0) (e0 x0 : K) (f : Found) (w : Whole ts R e0 x0 f) where
   pub unfit : f.good ≡ false → NotScript ts NoDerivation
   unfit n u d =
-      let g : good w.tree ≡ true = T_true (good w.tree) (subst Good (w.only u d) (derived_good ts u d).1) in
+      let g : good w.tree ≡ true = is_true (good w.tree) (subst Good (w.only u d) (derived_good ts u d).1) in
       let z : true ≡ false = sym g ∙ w.shape.fit ∙ n in
       let x : ◌≡◌ {A = ℕ} 0 1 = cc in
       omega arith
 
-  pub too_deep : 511 < f.under → NotScript ts TooDeep
+  pub too_deep : 512 ≤ f.below.depth → NotScript ts TooDeep
   too_deep lt = (omega (arith, w.few, w.shape.records, w.shape.nests, depth_size w.tree), λ u d. subst (λ (t : Tree). 512 < depth t) (sym (w.only u d)) (omega (arith, w.shape.nests)))
 
   a_script : T (ok root (attr w.tree))
@@ -178,5 +170,5 @@ module _ {K : Type 0} (ts : List Token) (R : K → K → Children → Forest →
       let (u, e, d) = good_derives ts w.tree a_script (subst T (sym (w.shape.fit ∙ fit)) tt) (sym v) in
       subst (λ (t : Tree). claim.Reads ts t) (w.only u d) d
 
-  pub scripted : f.good ≡ true → f.under ≤ 511 → Scripted ts R e0 x0 f
+  pub scripted : f.good ≡ true → f.below.depth < 512 → Scripted ts R e0 x0 f
   scripted fit un = record { tree = w.tree; derived = derived fit; shape = w.shape; nests = omega (arith, w.shape.nests); few = w.few; row = w.row }

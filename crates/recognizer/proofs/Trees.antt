@@ -8,7 +8,7 @@ use Rattle.grammar.specs.Site.{Attr}
 use Rattle.grammar.specs.Layout.{attr, attrs, good, goods, sort_of}
 use Rattle.fitting.specs.Summary.{Sums}
 use Rattle.grammar.specs.Derives.{lo_of}
-use Rattle.grammar.specs.Parser.{Goal, Do, prefix, After, frame_do, frame, next, goes_on, Ran, ran, bind, begun, grown_on, parse, loop, perform}
+use Rattle.grammar.specs.Parser.{Goal, Do, fail, prefix, frame_do, frame, next, goes_on, Ran, ran, bind, begun, grown_on, parse, loop, perform}
 use Rattle.reader.specs.Table.{Turns}
 use Rattle.reader.specs.Reads.{own, eats, Bad, NotParsed}
 use Rattle.recognizer.specs.Reads.{standing_of, Started, Alone, Holds, Shape, Shaped, Parsed, Made, NotMade, Reached, Onward}
@@ -18,9 +18,10 @@ use Rattle.recognizer.specs.declared.found.Found.{Found}
 use Rattle.recognizer.specs.declared.found.Parts.{Parts}
 use Rattle.reader.specs.declared.unread.Unread.{Unread}
 use Rattle.reader.specs.declared.unread.Unread.TheVariants.{NoDerivation, TooDeep}
-use Rattle.reader.proofs.Fuel.{raise_p, bind_inv, grow}
+use Rattle.grammar.proofs.Written.{bind_inv}
+use Rattle.reader.proofs.Fuel.{raise_p, grow}
 use Rattle.reader.proofs.Eats.{own_true, frame_eats}
-use Rattle.recognizer.proofs.Records.{and_true}
+use Rattle.std.proofs.Math.Bool.{and-true}
 
 bad_up : (e : Unread) (i room d c : ℕ) → 0 < room → i ≡ room - 1 → Bad e i d → d + 1 ≤ c → Bad e room c
 bad_up NoDerivation i room d c p q h le = h
@@ -50,7 +51,7 @@ holds_nil ks r p s = record { children = s.children; fit = sym s.fit; records = 
 
 holds_one : (t : Tree) (l : Found) (p : Parts) → Shape t l → Alone l p → Holds (t ▸ nil) p
 unfolding attrs goods sizes depths
-holds_one t l p s a = record { children = subst (λ (c : Attr). Sums (c ∷ []) p.children) (sym s.attributes) a.children; fit = and_true (good t) ∙ s.fit ∙ sym a.fit; records = omega (arith, s.records, a.records); nests = omega (arith, s.nests, a.nests) }
+holds_one t l p s a = record { children = subst (λ (c : Attr). Sums (c ∷ []) p.children) (sym s.attributes) a.children; fit = and-true (good t) ∙ s.fit ∙ sym a.fit; records = omega (arith, s.records, a.records); nests = omega (arith, s.nests, a.nests) }
 
 stands : (t : Tree) (f : Found) → Shape t f → (attr t).standing ≡ standing_of f
 stands t f s = ap (λ (a : Attr). a.standing) s.attributes
@@ -88,7 +89,16 @@ loop_off m b q t ks g = rw g
 perform_same : (m : ℕ) (b : Bool) (s s2 : Do) (h h2 : ℕ) (ks js : List Token) (y : Ran) → s ≡ s2 → h ≡ h2 → ks ≡ js → perform m b s2 h2 js ≡ some y → perform m b s h ks ≡ some y
 perform_same m b s s2 h h2 ks js y a c d e = rw (a, c, d) e
 
+-- nothing is found where there is nothing to do
+fails : (m : ℕ) (b : Bool) (s : Do) (h : ℕ) (ks : List Token) (y : Ran) → s ≡ fail → perform m b s h ks ≡ some y → ⊥
+unfolding perform
+fails zero b s h ks y f e = none-ne-some y e
+fails (suc m) b s h ks y f e = none-ne-some y (rw f at e)
+
 module _ (ts : List Token) (b : Bool) (q : Goal) where
+  pub no_start : (room : ℕ) → fail ≡ prefix q ts → NotParsed ts b q room NoDerivation
+  no_start room f n t r h = let (m, y, h1, h2) = parse_inv n b q ts (t, r) h in fails m b (prefix q ts) 0 ts y (sym f) h1
+
   pub no_room : NotParsed ts b q 0 TooDeep
   no_room n t r h = some_deep t
 
@@ -114,9 +124,9 @@ module _ (ts : List Token) (b : Bool) (q : Goal) where
         let h3 : perform m b s p.hi p.ahead.now ≡ some y = rw (e, st.hi, st.ahead) h1 in
         bad_up x inner room (depths y.kids) (depth t) pos is (nm m y h3) (omega (arith, depth_node (head y.form (lo_of ts) y.upto) y.kids, grow m b q (begun ts y) y.left t r h2))
 
-  module _ {K : Type 0} (R : K → K → Children → Forest → Type 0) (d0 m0 : K) (l : Found) (re : Reached ts b q R d0 m0 l) (s : Do) (p : Parts) (al : Alone l p) (a : After) (ch : Bool) (tn : Turns a ch s) (ea : a ≡ next l.ahead.now) (ec : ch ≡ is_o (standing_of l)) (on : Onward b q l true) where
+  module _ {K : Type 0} (R : K → K → Children → Forest → Type 0) (d0 m0 : K) (l : Found) (re : Reached ts b q R d0 m0 l) (s : Do) (tn : Turns (next l.ahead.now) (is_o (standing_of l)) s) (on : Onward b q l true) where
     does : (t : Tree) → Shape t l → s ≡ frame_do (next l.ahead.now) (attr t).standing
-    does t sh = tn (attr t).standing (ap is_o (stands t l sh) ∙ sym ec) ∙ ap (λ (z : After). frame_do z (attr t).standing) ea
+    does t sh = tn (attr t).standing (ap is_o (stands t l sh))
 
     goes : (t : Tree) → Shape t l → goes_on b q (attr t) (frame (next l.ahead.now)) ≡ true
     goes t sh = sym (on (attr t) (sorted t l sh) (stands t l sh))
@@ -124,41 +134,49 @@ module _ (ts : List Token) (b : Bool) (q : Goal) where
     one : 1 ≤ own s
     one = let (t, sh, w) = re.tree in own_true s (subst (λ (x : Do). T (eats x)) (sym (does t sh)) (frame_eats (next l.ahead.now) (attr t).standing))
 
-    more_below : (x0 : K) (f : Found) → Made b s p R m0 x0 f → l.below + 1 ≤ f.below
-    unfolding sizes
-    more_below x0 f m =
-        let (t, sh, w) = re.tree in
-        let (us, rr, h) = m.run in
-        omega (arith, (h (t ▸ nil) (holds_one t l p sh al)).records, sh.records)
-
-    pub longer : (x0 : K) (f : Found) → Made b s p R m0 x0 f → length f.ahead.now < length l.ahead.now
-    longer x0 f m = omega (arith, m.few, al.records, ap length al.ahead, one, more_below x0 f m)
-
-    pub reached_next : (x0 : K) (f : Found) → Made b s p R m0 x0 f → Reached ts b q R d0 x0 f
-    reached_next x0 f m =
-        let (t, sh, (k, w)) = re.tree in
-        let (us, (k2, r), h) = m.run in
-        let y : Ran = ran f.traits.form us f.hi f.ahead.now in
-        let hi : p.hi ≡ (head_of t).hi = al.hi ∙ sym (ap (λ (z : Head). z.hi) sh.heads) in
-        let lo : (head_of t).lo ≡ f.lo = ap (λ (z : Head). z.lo) sh.heads ∙ sym (m.lo ∙ al.lo) in
-        record {
-          rows = row_at R x0 d0 f (head_of t).lo (t ▸ us) lo (m.rows d0 (t ▸ nil) (subst (λ (r : Children). R m0 d0 r (t ▸ nil)) (sym al.row) re.rows));
-          few = omega (arith, re.few, m.few, al.records, ap length al.ahead, one);
-          tree = (
-            grown_on t y,
-            shape_node (t ▸ us) f (head_of t).lo lo (h (t ▸ nil) (holds_one t l p sh al)),
-            (k + k2, λ n le. let (n2, le2, e) = w (suc n) (omega arith) in (n2, omega arith, e ∙ loop_on n b q t l.ahead.now y (goes t sh) (rw (does t sh, hi, al.ahead) at (r n (omega arith))))),
-          );
-        }
-
-    pub refused_next : (room inner : ℕ) (x : Unread) → 0 < room → inner ≡ room - 1 → NotMade b s p inner x → NotParsed ts b q room x
-    refused_next room inner x pos is nm n u r h =
+    pub no_step : (room : ℕ) → s ≡ fail → NotParsed ts b q room NoDerivation
+    no_step room f n u r h =
         let (t, sh, (k, w)) = re.tree in
         let (n2, le, e) = w (suc (k + n)) (omega arith) in
-        let hi : p.hi ≡ (head_of t).hi = al.hi ∙ sym (ap (λ (z : Head). z.hi) sh.heads) in
         let (y, h1, h2) = loop_inv (k + n) b q t l.ahead.now (u, r) (goes t sh) (sym e ∙ raise_p n n2 b q ts (u, r) (omega arith) h) in
-        let h3 : perform (k + n) b s p.hi p.ahead.now ≡ some y = perform_same (k + n) b s (frame_do (next l.ahead.now) (attr t).standing) p.hi (head_of t).hi p.ahead.now l.ahead.now y (does t sh) hi al.ahead h1 in
-        bad_up x inner room (depths y.kids) (depth u) pos is (nm (k + n) y h3) (omega (arith, depth_kids (head y.form (head_of t).lo y.upto) t y.kids, grow (k + n) b q (grown_on t y) y.left u r h2))
+        fails (k + n) b (frame_do (next l.ahead.now) (attr t).standing) (head_of t).hi l.ahead.now y (sym (does t sh) ∙ f) h1
+
+    module _ (p : Parts) (al : Alone l p) where
+      more_below : (x0 : K) (f : Found) → Made b s p R m0 x0 f → l.below.records + 1 ≤ f.below.records
+      unfolding sizes
+      more_below x0 f m =
+          let (t, sh, w) = re.tree in
+          let (us, rr, h) = m.run in
+          omega (arith, (h (t ▸ nil) (holds_one t l p sh al)).records, sh.records)
+
+      pub longer : (x0 : K) (f : Found) → Made b s p R m0 x0 f → length f.ahead.now < length l.ahead.now
+      longer x0 f m = omega (arith, m.few, al.records, ap length al.ahead, one, more_below x0 f m)
+
+      pub reached_next : (x0 : K) (f : Found) → Made b s p R m0 x0 f → Reached ts b q R d0 x0 f
+      reached_next x0 f m =
+          let (t, sh, (k, w)) = re.tree in
+          let (us, (k2, r), h) = m.run in
+          let y : Ran = ran f.traits.form us f.hi f.ahead.now in
+          let hi : p.hi ≡ (head_of t).hi = al.hi ∙ sym (ap (λ (z : Head). z.hi) sh.heads) in
+          let lo : (head_of t).lo ≡ f.lo = ap (λ (z : Head). z.lo) sh.heads ∙ sym (m.lo ∙ al.lo) in
+          record {
+            rows = row_at R x0 d0 f (head_of t).lo (t ▸ us) lo (m.rows d0 (t ▸ nil) (subst (λ (r : Children). R m0 d0 r (t ▸ nil)) (sym al.row) re.rows));
+            few = omega (arith, re.few, m.few, al.records, ap length al.ahead, one);
+            tree = (
+              grown_on t y,
+              shape_node (t ▸ us) f (head_of t).lo lo (h (t ▸ nil) (holds_one t l p sh al)),
+              (k + k2, λ n le. let (n2, le2, e) = w (suc n) (omega arith) in (n2, omega arith, e ∙ loop_on n b q t l.ahead.now y (goes t sh) (rw (does t sh, hi, al.ahead) at (r n (omega arith))))),
+            );
+          }
+
+      pub refused_next : (room inner : ℕ) (x : Unread) → 0 < room → inner ≡ room - 1 → NotMade b s p inner x → NotParsed ts b q room x
+      refused_next room inner x pos is nm n u r h =
+          let (t, sh, (k, w)) = re.tree in
+          let (n2, le, e) = w (suc (k + n)) (omega arith) in
+          let hi : p.hi ≡ (head_of t).hi = al.hi ∙ sym (ap (λ (z : Head). z.hi) sh.heads) in
+          let (y, h1, h2) = loop_inv (k + n) b q t l.ahead.now (u, r) (goes t sh) (sym e ∙ raise_p n n2 b q ts (u, r) (omega arith) h) in
+          let h3 : perform (k + n) b s p.hi p.ahead.now ≡ some y = perform_same (k + n) b s (frame_do (next l.ahead.now) (attr t).standing) p.hi (head_of t).hi p.ahead.now l.ahead.now y (does t sh) hi al.ahead h1 in
+          bad_up x inner room (depths y.kids) (depth u) pos is (nm (k + n) y h3) (omega (arith, depth_kids (head y.form (head_of t).lo y.upto) t y.kids, grow (k + n) b q (grown_on t y) y.left u r h2))
 
   pub stopped : {K : Type 0} (R : K → K → Children → Forest → Type 0) (e0 x0 : K) (f : Found) → Reached ts b q R e0 x0 f → Onward b q f false → Parsed ts b q R e0 x0 f
   stopped R e0 x0 f re off =

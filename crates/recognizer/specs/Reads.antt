@@ -36,8 +36,8 @@ pub record Started (ks : List Token) (r : Children) (p : Parts) : Type 0 where
   pub lo : p.lo ≡ lo_of ks
   pub hi : p.hi ≡ 0
   pub ahead : p.ahead.now ≡ ks
-  pub records : p.size ≡ 0
-  pub nests : p.depth ≡ 0
+  pub records : p.below.records ≡ 0
+  pub nests : p.below.depth ≡ 0
   pub row : p.row ≡ r
 
 pub record Alone (f : Found) (p : Parts) : Type 0 where
@@ -46,8 +46,8 @@ pub record Alone (f : Found) (p : Parts) : Type 0 where
   pub lo : p.lo ≡ f.lo
   pub hi : p.hi ≡ f.hi
   pub ahead : p.ahead.now ≡ f.ahead.now
-  pub records : p.size ≡ f.below + 1
-  pub nests : p.depth ≡ f.under + 1
+  pub records : p.below.records ≡ f.below.records + 1
+  pub nests : p.below.depth ≡ f.below.depth + 1
   pub row : p.row ≡ single f.slot
 
 pub record Joined (p : Parts) (f : Found) (r : Children) (q : Parts) : Type 0 where
@@ -56,8 +56,8 @@ pub record Joined (p : Parts) (f : Found) (r : Children) (q : Parts) : Type 0 wh
   pub lo : q.lo ≡ p.lo
   pub hi : q.hi ≡ f.hi
   pub ahead : q.ahead.now ≡ f.ahead.now
-  pub records : q.size ≡ p.size + f.below + 1
-  pub nests : q.depth ≡ max p.depth (f.under + 1)
+  pub records : q.below.records ≡ p.below.records + f.below.records + 1
+  pub nests : q.below.depth ≡ max p.below.depth (f.below.depth + 1)
   pub row : q.row ≡ r
 
 pub record Completed (p : Parts) (g : Form) (n : ℕ) (f : Found) : Type 0 where
@@ -68,34 +68,34 @@ pub record Completed (p : Parts) (g : Form) (n : ℕ) (f : Found) : Type 0 where
   pub hi : f.hi ≡ p.hi
   pub ahead : f.ahead.now ≡ p.ahead.now
   pub slot : f.slot ≡ n
-  pub records : f.below ≡ p.size
-  pub nests : f.under ≡ p.depth
+  pub records : f.below.records ≡ p.below.records
+  pub nests : f.below.depth ≡ p.below.depth
 
 pub record Shape (t : Tree) (f : Found) : Type 0 where
   pub heads : head_of t ≡ head f.traits.form f.lo f.hi
   pub attributes : attr t ≡ traits_of f.traits
   pub fit : good t ≡ f.good
-  pub records : size t ≡ 1 + f.below
-  pub nests : depth t ≡ 1 + f.under
+  pub records : size t ≡ 1 + f.below.records
+  pub nests : depth t ≡ 1 + f.below.depth
 
 pub record Holds (us : Forest) (p : Parts) : Type 0 where
   pub children : Sums (attrs us) p.children
   pub fit : goods us ≡ p.good
-  pub records : sizes us ≡ p.size
-  pub nests : depths us ≡ p.depth
+  pub records : sizes us ≡ p.below.records
+  pub nests : depths us ≡ p.below.depth
 
 pub record Shaped (us : Forest) (f : Found) : Type 0 where
   pub attributes : attr_of f.traits.form (attrs us) ≡ traits_of f.traits
   pub fit : fit_kids (layout f.traits.form (attrs us)) (attrs us) && goods us ≡ f.good
-  pub records : sizes us ≡ f.below
-  pub nests : depths us ≡ f.under
+  pub records : sizes us ≡ f.below.records
+  pub nests : depths us ≡ f.below.depth
 
 pub record Parsed {K : Type 0} (ks : List Token) (b : Bool) (q : Goal) (R : K → K → Children → Forest → Type 0) (e x : K) (f : Found) : Type 0 where
-  pub few : f.below + length f.ahead.now < length ks
+  pub few : f.below.records + length f.ahead.now < length ks
   pub tree : (t : Tree) × Shape t f × Reads b q ks t f.ahead.now × R x e (single f.slot) (t ▸ nil)
 
 pub record Made {K : Type 0} (b : Bool) (s : Do) (p : Parts) (R : K → K → Children → Forest → Type 0) (e x : K) (f : Found) : Type 0 where
-  pub few : f.below + own s + length f.ahead.now ≤ p.size + length p.ahead.now
+  pub few : f.below.records + own s + length f.ahead.now ≤ p.below.records + length p.ahead.now
   pub lo : f.lo ≡ p.lo
   pub run : (us : Forest) × Runs b s p.hi p.ahead.now (ran f.traits.form us f.hi f.ahead.now) × ((ws : Forest) → Holds ws p → Shaped (ws ⊕ us) f)
   pub rows : (z : K) (ws : Forest) → R e z p.row ws → R x z (single f.slot) (node (head f.traits.form f.lo f.hi) (ws ⊕ run.0) ▸ nil)
@@ -105,15 +105,15 @@ NotMade b s p room e = (n : ℕ) (y : Ran) → perform n b s p.hi p.ahead.now �
 
 -- Since the loop began at p0 with s0 to do: the children us have come, and s is left to do at p.
 pub record Carried {K : Type 0} (b : Bool) (s0 : Do) (p0 : Parts) (R : K → K → Children → Forest → Type 0) (e x : K) (s : Do) (p : Parts) : Type 0 where
-  pub few : p.size + own s0 + length p.ahead.now ≤ p0.size + length p0.ahead.now + own s
-  pub fewer : p.size + length p.ahead.now ≤ p0.size + length p0.ahead.now
+  pub few : p.below.records + own s0 + length p.ahead.now ≤ p0.below.records + length p0.ahead.now + own s
+  pub fewer : p.below.records + length p.ahead.now ≤ p0.below.records + length p0.ahead.now
   pub lo : p.lo ≡ p0.lo
   pub run : (us : Forest) × ((ws : Forest) → Holds ws p0 → Holds (ws ⊕ us) p) × ((k : ℕ) × ((m : ℕ) → k ≤ m → (n : ℕ) × (m ≤ n) × (perform n b s0 p0.hi p0.ahead.now ≡ graft us (perform m b s p.hi p.ahead.now))))
   pub rows : (z : K) (ws : Forest) → R e z p0.row ws → R x z p.row (ws ⊕ run.0)
 
 -- What the grammar's reader finds at ks is what it finds behind the tree so far.
 pub record Reached {K : Type 0} (ks : List Token) (b : Bool) (q : Goal) (R : K → K → Children → Forest → Type 0) (e x : K) (f : Found) : Type 0 where
-  pub few : f.below + length f.ahead.now < length ks
+  pub few : f.below.records + length f.ahead.now < length ks
   pub tree : (t : Tree) × Shape t f × ((k : ℕ) × ((m : ℕ) → k ≤ m → (n : ℕ) × (m ≤ n) × (parse n b q ks ≡ loop m b q t f.ahead.now)))
   pub rows : R x e (single f.slot) (tree.0 ▸ nil)
 
@@ -127,8 +127,8 @@ pub record Behind (p : Parts) (c : Code) (q : Parts) : Type 0 where
   pub children : q.children ≡ p.children
   pub fit : q.good ≡ p.good
   pub lo : q.lo ≡ p.lo
-  pub records : q.size ≡ p.size
-  pub nests : q.depth ≡ p.depth
+  pub records : q.below.records ≡ p.below.records
+  pub nests : q.below.depth ≡ p.below.depth
   pub row : q.row ≡ p.row
 
 abbrev pub Eaten : Parts → Code → OptionR Parts → Type 0

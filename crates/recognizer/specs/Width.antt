@@ -24,7 +24,7 @@ pub record Whole {K : Type 0} (ts : List Token) (R : K → K → Children → Fo
   pub shape : Shape tree f
   pub found : Reads true scr ts tree []
   pub only : (u : Tree) → claim.Reads ts u → u ≡ tree
-  pub few : f.below ≤ length ts
+  pub few : f.below.records ≤ length ts
   pub row : R x e (single f.slot) (tree ▸ nil)
 
 pub record Scripted {K : Type 0} (ts : List Token) (R : K → K → Children → Forest → Type 0) (e x : K) (f : Found) : Type 0 where
@@ -32,7 +32,7 @@ pub record Scripted {K : Type 0} (ts : List Token) (R : K → K → Children →
   pub derived : claim.Reads ts tree
   pub shape : Shape tree f
   pub nests : depth tree ≤ 512
-  pub few : f.below ≤ length ts
+  pub few : f.below.records ≤ length ts
   pub row : R x e (single f.slot) (tree ▸ nil)
 
 pub record Recognized (ts : List Token) (n : ℕ) : Type 0 where

@@ -2,6 +2,7 @@
 // read, and how it goes on, is the reader's table; what is kept of a tree, and the walk that keeps it, stand here.
 #![tactic(auto)]
 
+pub mod extent;
 pub mod found;
 pub mod parts;
 pub mod read;

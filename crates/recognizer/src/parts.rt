@@ -4,6 +4,7 @@ ghost use Rattle.std.specs.Prelude.{◌≡◌, ◌+◌, ◌^◌, ◌<◌};
 ghost use Rattle.grammar.specs.Derives.{lo_of};
 ghost use Rattle.recognizer.specs.Reads.{Started, Alone, Eaten, Joined, Completed};
 
+use crate::extent::Extent;
 use crate::found::{Found, Parts};
 use fitting::{Summary, children_fit, traits_of};
 use kinds::Form;
@@ -20,7 +21,7 @@ fn lo_of(ahead: &[Token]) -> u32
 impl<'a> Found<'a> {
     /// The parts of a record whose first child this is.
     pub fn alone(self) -> Parts<'a>
-        requires { self.below + 1 < 2 ^ 64 }
+        requires { self.below.records + 1 < 2 ^ 64 }
         ensures { Alone self.entry result }
     {
         Parts {
@@ -29,8 +30,7 @@ impl<'a> Found<'a> {
             lo: self.lo,
             hi: self.hi,
             ahead: self.ahead,
-            size: self.below + 1,
-            depth: self.under + 1,
+            below: self.below.raised(),
             row: Children {
                 first: self.slot,
                 last: self.slot,
@@ -50,8 +50,7 @@ impl<'a> Parts<'a> {
             lo: lo_of(ahead),
             hi: 0,
             ahead,
-            size: 0,
-            depth: 0,
+            below: Extent::NONE,
             row,
         }
     }
@@ -65,30 +64,24 @@ impl<'a> Parts<'a> {
             return None;
         }
         Some(Parts {
-            children: self.children,
-            good: self.good,
-            lo: self.lo,
             hi: token.hi,
             ahead,
-            size: self.size,
-            depth: self.depth,
-            row: self.row,
+            ..self
         })
     }
 
     /// The parts with one more child, which makes the row of them `row`.
     pub fn join(self, child: Found<'a>, row: Children) -> Parts<'a>
-        requires { self.size + child.below + 1 < 2 ^ 64 }
+        requires { self.below.records + child.below.records + 1 < 2 ^ 64 }
         ensures { Joined self.entry child.entry row result }
     {
         Parts {
             children: self.children.with(child.traits),
-            good: self.good & child.good,
+            good: self.good && child.good,
             lo: self.lo,
             hi: child.hi,
             ahead: child.ahead,
-            size: self.size + child.below + 1,
-            depth: self.depth.max(child.under + 1),
+            below: self.below.beside(child.below.raised()),
             row,
         }
     }
@@ -99,12 +92,11 @@ impl<'a> Parts<'a> {
     {
         Found {
             traits: traits_of(form, self.children),
-            good: children_fit(form, self.children) & self.good,
+            good: children_fit(form, self.children) && self.good,
             lo: self.lo,
             hi: self.hi,
             ahead: self.ahead,
-            below: self.size,
-            under: self.depth,
+            below: self.below,
             slot,
         }
     }

@@ -14,11 +14,12 @@ use records::{Mark, Store, stamp};
 use token::Token;
 
 /// How many records the tree has that the tokens derive.
+// A u64: it is to be the value of a refusal, which will be 64 bits wide.
 pub fn recognize(tokens: &[Token]) -> Result<u64, Unread>
     ensures { MatchResult result (λ n. Recognized tokens.now n) (λ e. NotScript tokens.now e) }
 {
     let found = script(tokens, &mut Nothing)?;
-    Ok(found.below as u64 + 1)
+    Ok(found.below.records as u64 + 1)
 }
 
 /// Puts up the tree that the tokens derive, from free records, and answers the slot of its root. Nothing is promised where

@@ -21,6 +21,9 @@ use reader::unread::{Unread, refused};
 use records::Head;
 use token::Token;
 
+/// How deep a script may nest, itself counted.
+const DEEPEST: usize = 512;
+
 /// Whether the expression goes on with the token behind it, when it is read for the slot.
 fn taken(left: Found, turn: Turn, slot: Slot, allow_in: bool) -> bool
     ensures { result ≡ takes allow_in slot (standing_of left.entry) (frame (turn_of turn)) }
@@ -53,14 +56,13 @@ fn record<'a, S: Sink>(
     inner: usize,
     sink: &mut S,
 ) -> Result<Found<'a>, Unread>
-    requires { start.size + length start.ahead.now < 2 ^ 64 }
+    requires { start.below.records + length start.ahead.now < 2 ^ 64 }
     ensures { MatchResult result (λ f. Made allow_in (do_of begun) start.entry S.rows sink.old sink.new f) (λ e. NotMade allow_in (do_of begun) start.entry inner e) }
 {
     let mut rest = begun;
     let mut parts = start;
     loop {
         match next_step(parts.ahead, rest) {
-            Step::Fail => return Err(Unread::NoDerivation),
             Step::Finish(form) => {
                 let head = Head {
                     form,
@@ -71,10 +73,7 @@ fn record<'a, S: Sink>(
                 return Ok(parts.complete(form, slot));
             }
             Step::Eat(code, then) => {
-                let Some(next) = parts.eat(code) else {
-                    return Err(Unread::NoDerivation);
-                };
-                parts = next;
+                parts = parts.eat(code).ok_or(Unread::NoDerivation)?;
                 rest = then;
             }
             Step::Read(mode, goal, then) => {
@@ -101,16 +100,13 @@ fn tree<'a, S: Sink>(
     if room == 0 {
         return Err(Unread::TooDeep);
     }
+    let begun = begin(ahead, goal).ok_or(Unread::NoDerivation)?;
     let none = sink.none();
-    let mut found = record(
-        begin(ahead, goal),
-        Parts::start(ahead, none),
-        allow_in,
-        room - 1,
-        sink,
-    )?;
+    let mut found = record(begun, Parts::start(ahead, none), allow_in, room - 1, sink)?;
     while goes_on(found, goal, allow_in) {
-        let rest = behind(turn_at(found.ahead), found.traits.is_chain());
+        let rest = behind(turn_at(found.ahead), found.traits.is_chain()).ok_or(
+            Unread::NoDerivation,
+        )?;
         found = record(rest, found.alone(), allow_in, room - 1, sink)?;
     }
     Ok(found)
@@ -123,7 +119,7 @@ fn whole<'a, S: Sink>(tokens: &'a [Token], sink: &mut S) -> Result<Found<'a>, Un
 {
     let start = Parts::start(tokens, sink.none());
     let statements = Rest::Statements(Body::Script);
-    let found = record(statements, start, true, 511, sink).map_err(
+    let found = record(statements, start, true, DEEPEST - 1, sink).map_err(
         |why| -> Unread
             ensures { result ≡ refused_of (length tokens.entry.now) why }
         { refused(tokens.len(), why) },
@@ -143,7 +139,7 @@ pub fn script<'a, S: Sink>(tokens: &'a [Token], sink: &mut S) -> Result<Found<'a
     if !found.good {
         return Err(Unread::NoDerivation);
     }
-    if found.under > 511 {
+    if found.below.depth >= DEEPEST {
         return Err(Unread::TooDeep);
     }
     Ok(found)

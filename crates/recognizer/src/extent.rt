@@ -1,0 +1,42 @@
+// How many records stand below another, and how deep they nest.
+
+ghost use Rattle.std.specs.Prelude.{◌≡◌, ◌+◌, ◌^◌, ◌<◌, ◌≤◌, max};
+
+/// A number of records and how deep they nest.
+#[derive(Clone, Copy)]
+pub struct Extent {
+    pub records: usize,
+    pub depth: usize,
+    ghost nests: { depth ≤ records },
+}
+
+impl Extent {
+    pub const NONE: Extent = Extent {
+        records: 0,
+        depth: 0,
+    };
+
+    /// These and a record above them all.
+    pub fn raised(self) -> Extent
+        requires { self.records + 1 < 2 ^ 64 }
+        ensures records { result.records ≡ self.records + 1 }
+        ensures depth { result.depth ≡ self.depth + 1 }
+    {
+        Extent {
+            records: self.records + 1,
+            depth: self.depth + 1,
+        }
+    }
+
+    /// These and others beside them.
+    pub fn beside(self, other: Extent) -> Extent
+        requires { self.records + other.records < 2 ^ 64 }
+        ensures records { result.records ≡ self.records + other.records }
+        ensures depth { result.depth ≡ max self.depth other.depth }
+    {
+        Extent {
+            records: self.records + other.records,
+            depth: self.depth.max(other.depth),
+        }
+    }
+}
