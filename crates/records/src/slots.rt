@@ -1,6 +1,6 @@
 // The record of a slot, read and marked, and all records made free.
-ghost use Rattle.std.specs.Prelude.{◌≡◌, ℕ, ◌-◌, ◌<◌, ◌≤◌, List, length, MatchOption, slice_set};
-ghost use Rattle.chain.specs.Chain.{room, Slot, Chain, Off, slots_from, Beyond};
+ghost use Rattle.std.specs.Prelude.{◌≡◌, ℕ, length};
+ghost use Rattle.chain.specs.Chain.{room, Slot, Chain, slots_from, Beyond};
 ghost use Rattle.records.specs.Record.{at, links, vacant, stamped};
 
 use crate::record::{Mark, Record};
