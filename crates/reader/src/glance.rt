@@ -76,18 +76,22 @@ pub fn opens_at(ahead: &[Token]) -> bool
 }
 
 /// Whether `=>` follows the `)` that closes the parenthesis whose inside is ahead.
+// Tried: a `for` with a match on the code. It proved, but nested pairs were read at 0.7 times this speed.
+#[tactic(auto, using(token::proofs::Derived::same_derived))]
 pub fn arrow_behind(ahead: &[Token]) -> bool
     ensures { result ≡ starts arrow (skip 0 ahead.now) }
 {
     let mut open: usize = 0;
-    for (i, token) in ahead.iter().enumerate() {
-        match token.code {
-            Code::Punctuator(Punctuator::OpenParen) => open += 1,
-            Code::Punctuator(Punctuator::CloseParen) if open == 0 => {
-                return sees(&ahead[i + 1..], Code::Punctuator(Punctuator::Arrow));
+    let mut rest = ahead;
+    while let Some((token, behind)) = rest.split_first() {
+        rest = behind;
+        if token.code == Code::Punctuator(Punctuator::OpenParen) {
+            open += 1;
+        } else if token.code == Code::Punctuator(Punctuator::CloseParen) {
+            if open == 0 {
+                return sees(behind, Code::Punctuator(Punctuator::Arrow));
             }
-            Code::Punctuator(Punctuator::CloseParen) => open -= 1,
-            _ => {}
+            open -= 1;
         }
     }
     false
