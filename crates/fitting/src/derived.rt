@@ -44,6 +44,8 @@ pub enum Tail {
 }
 
 impl Traits {
+    // Three functions, since each carries the clause that ties it to a definition of its own.
+
     /// Whether it is a link of an optional chain.
     pub fn is_chain(self) -> bool
         ensures { result ≡ is_o (traits_of self).standing }
@@ -65,6 +67,8 @@ impl Traits {
         self.suits(Slot::Target)
     }
 }
+
+// Three flags and no struct of them: they are the fields of `Form::For`, and the grammar's definitions match on those.
 
 /// How many of a For's init, test and update are there.
 pub fn head_parts(init: bool, test: bool, update: bool) -> usize

@@ -46,6 +46,7 @@ pub enum Kind {
 }
 
 impl Kind {
+    // A cast under a name, since the pages give the ranks and a contract pins them.
     /// The place in the list of kinds: 0 for a free record, 1 to 35 for the others.
     pub fn rank(self) -> u8
         ensures { result ≡ rank self }

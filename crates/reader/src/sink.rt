@@ -24,7 +24,7 @@ pub trait Sink {
         ensures { Pushed rows self.old self.new row child result };
 }
 
-/// Keeps nothing: for a reading that only decides and counts.
+/// Keeps nothing: for a reading that only decides and counts. The slots that it answers mean nothing.
 #[derive(Drop)]
 pub struct Nothing;
 

@@ -11,7 +11,7 @@ use kinds::Form;
 use records::Children;
 use token::{Code, Token};
 
-/// Where the next token begins, if there is one.
+/// Where the next token begins; 0 where there is none, as the grammar's definition has it.
 fn lo_of(ahead: &[Token]) -> u32
     ensures { result ≡ lo_of ahead.now }
 {
@@ -31,10 +31,7 @@ impl<'a> Found<'a> {
             hi: self.hi,
             ahead: self.ahead,
             below: self.below.raised(),
-            row: Children {
-                first: self.slot,
-                last: self.slot,
-            },
+            row: Children::one(self.slot),
         }
     }
 }
@@ -60,6 +57,7 @@ impl<'a> Parts<'a> {
         ensures { Eaten self.entry code result }
     {
         let (token, ahead) = self.ahead.split_first()?;
+        // `same` and no `!=`: tried with the lemma that ties the two, and `returns` stayed open.
         if !token.code.same(code) {
             return None;
         }

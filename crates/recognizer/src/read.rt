@@ -27,7 +27,7 @@ pub fn recognize(tokens: &[Token]) -> Result<u64, Unread>
 pub fn build(tokens: &[Token], store: &mut Store) -> u16
     ensures { (t : Tree) → Reads tokens.now t → depth t ≤ 512 → Built store.old store.new result t }
 {
-    // 0 and no Option: the first pass has recognized the tokens, so there is a script.
+    // 0 and no Option, as it always could not fail: nothing is asked of the caller, and nothing promised without a script.
     match script(tokens, store) {
         Ok(found) => found.slot,
         Err(_) => 0,

@@ -19,7 +19,7 @@ pub fn nest(slots: &mut [Record], free: &mut u16, head: Head, first: u16) -> u16
         hi: head.hi,
         mark: Mark::Unmarked,
     };
-    // 0 and no Option: a reading is counted before it is put up, so a record is left.
+    // 0 and no Option, as it always could not fail: nothing is asked of the caller, and nothing promised without a record.
     chain::take(slots, free, parent).unwrap_or(0)
 }
 

@@ -16,6 +16,7 @@ pub enum Mark {
 }
 
 impl Mark {
+    // A cast under a name, since the pages give the numbers and a contract pins them.
     /// 1 for the root of a loaded tree, 2 of a fixed one, 3 of a piece, 0 for every other record.
     pub fn number(self) -> u8
         ensures { result ≡ mark_number self }

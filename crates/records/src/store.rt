@@ -60,6 +60,8 @@ impl<'a> Store<'a> {
         give_back_tree(self.slots, &mut self.free, root);
     }
 
+    // `nest` and `push` stand over slices too: those lend nothing, so their clauses and proofs are free of the loan.
+
     /// Draws a record for a parent and puts it over its children.
     pub fn nest(&mut self, head: Head, children: Children) -> u16
         ensures row { (s : List Record) (from last : ℕ) (us : Forest) → Stands s from self.old.slots.now self.old.free children.first last us

@@ -23,7 +23,7 @@ impl Entry {
         rank: 0,
     };
 
-    /// Whether the entry stands in a list.
+    /// Whether the entry stands in a list. A function, since it carries the clause that ties spots to `here`.
     pub(crate) fn is_in(self, spot: Spot) -> bool
         ensures { result ≡ here spot.side spot.offset self }
     {

@@ -1,6 +1,6 @@
-use Rattle.std.proofs.Common.{length, ◌≡◌, ℕ, ◌<◌, false}
+use Rattle.std.proofs.Common.{◌≡◌, ℕ, ◌<◌, false}
 use Rattle.spliced.specs.Heads.{list_at, key}
 use Rattle.spliced.proofs.heads.Heads.find.Given as goal
 
-abbrev pub invariant-loop-head : goal.invariant-loop-head
-invariant-loop-head l = (k : ℕ) → k < length l.yielded → key l.spot.side l.spot.offset (list_at l.self.slots.now k) ≡ false
+abbrev pub invariant-loop-i : goal.invariant-loop-i
+invariant-loop-i l = (k : ℕ) → k < l.i → key l.spot.side l.spot.offset (list_at l.self.slots.now k) ≡ false
