@@ -18,7 +18,7 @@ pub struct Rule {
     pub comments: Vec<Comment>,
 }
 
-/// Why a line is no rule.
+/// Why a line is no rule. Not the fault of `words`, which says no place.
 #[derive(Clone, Copy, PartialEq, Eq, Debug)]
 pub enum Fault {
     /// The word there is no token.
