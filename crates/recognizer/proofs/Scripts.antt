@@ -142,7 +142,7 @@ module _ (ts : List Token) (r0 : Children) (p : Parts) (st : Started ts r0 p) wh
     pub whole : R e0 e0 r0 nil → true ≡ (length f.ahead.now == 0) → Whole ts R e0 x0 f
     whole rn off =
         let none_left : f.ahead.now ≡ [] = nil_from_length f.ahead.now (grind (arith, off)) in
-        record { tree = t0; shape = shaped; found = subst (λ (r : List Token). Reads true scr ts t0 r) none_left scr_reads; only = λ u d. (only u d).0; few = omega (arith, m.few, st.records, ap length st.ahead); row = kept rn }
+        record { tree = t0; shape = shaped; found = subst (λ (r : List Token). Reads true scr ts t0 r) none_left scr_reads; only = λ u d. (only u d).0; few = omega (arith, m.few, st.records, ap length st.ahead); row = kept rn; done = none_left }
 
 -- Whether its children fit, and how deep it nests.
 begun_script : (ts : List Token) (y : Ran) → y.form ≡ form.Script → T (ok root (attr (begun ts y)))
@@ -171,4 +171,4 @@ module _ {K : Type 0} (ts : List Token) (R : K → K → Children → Forest →
       subst (λ (t : Tree). claim.Reads ts t) (w.only u d) d
 
   pub scripted : f.good ≡ true → f.below.depth < 512 → Scripted ts R e0 x0 f
-  scripted fit un = record { tree = w.tree; derived = derived fit; shape = w.shape; nests = omega (arith, w.shape.nests); few = w.few; row = w.row }
+  scripted fit un = record { tree = w.tree; derived = derived fit; shape = w.shape; nests = omega (arith, w.shape.nests); few = w.few; row = w.row; done = w.done }

@@ -26,6 +26,7 @@ pub record Whole {K : Type 0} (ts : List Token) (R : K → K → Children → Fo
   pub only : (u : Tree) → claim.Reads ts u → u ≡ tree
   pub few : f.below.records ≤ length ts
   pub row : R x e (single f.slot) (tree ▸ nil)
+  pub done : f.ahead.now ≡ []
 
 pub record Scripted {K : Type 0} (ts : List Token) (R : K → K → Children → Forest → Type 0) (e x : K) (f : Found) : Type 0 where
   pub tree : Tree
@@ -34,6 +35,7 @@ pub record Scripted {K : Type 0} (ts : List Token) (R : K → K → Children →
   pub nests : depth tree ≤ 512
   pub few : f.below.records ≤ length ts
   pub row : R x e (single f.slot) (tree ▸ nil)
+  pub done : f.ahead.now ≡ []
 
 pub record Recognized (ts : List Token) (n : ℕ) : Type 0 where
   pub tree : Tree
