@@ -1,5 +1,5 @@
 // One piece of work: a store is filled, and its comments are moved.
-use comments::{Move, Place, Side, Store, carry};
+use comments::{Fill, Move, Place, Side, carry};
 use register::{Entry, Register};
 use spliced::{Head, Note, Spliced};
 use std::alloc::{AllocError, Global};
@@ -47,7 +47,7 @@ fn point(offset: u32) -> Place {
 }
 
 /// Fills a store, makes the moves, and prints the time of both.
-fn run<S: Store>(
+fn run<S: Fill>(
     rt: &HostRuntime,
     name: &str,
     store: &mut S,
@@ -74,7 +74,7 @@ fn run<S: Store>(
 }
 
 /// Gives every offset its comments, leading and trailing ones in turn, and answers how many the store took.
-fn fill_all<S: Store>(store: &mut S, work: Work) -> u32 {
+fn fill_all<S: Fill>(store: &mut S, work: Work) -> u32 {
     let mut held = 0u32;
     for offset in 0..work.offsets {
         for i in 0..work.each {

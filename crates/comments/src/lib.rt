@@ -9,4 +9,4 @@ mod store;
 pub use agree::{carry_both, same_list, same_lists, same_meaning};
 pub use carrying::carry;
 pub use place::{Move, Place};
-pub use store::{Side, Spot, Store};
+pub use store::{Fill, Side, Spot, Store};

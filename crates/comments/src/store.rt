@@ -37,11 +37,6 @@ pub trait Store {
     // For how many more comments there is room.
     ghost vacant: { Self → ℕ };
 
-    /// Puts a comment last in a list. It is refused exactly where there is no room, and then nothing changes.
-    fn add(&mut self, spot: Spot, comment: u32) -> Result<(), Refusal>
-        ensures fills { Fills (lists self.old) (lists self.new) (vacant self.old) (vacant self.new) spot.side spot.offset comment result }
-        ensures same { OnErr result (self.new ≡ self.old) };
-
     /// Puts the list on a side at `from` to the outer side of that at `to`: a leading one before it, a trailing one after it.
     /// Then `from` is empty. Equal offsets change nothing.
     fn move_list(&mut self, side: Side, from: u32, to: u32)
@@ -55,4 +50,12 @@ pub trait Store {
     /// The comment at a rank of the list, which counts from 0; none past its end.
     fn comment(&self, spot: Spot, rank: usize) -> Option<u32>
         ensures value { result ≡ slice_get (lists self.now spot.side spot.offset) rank };
+}
+
+/// A store that takes comments one by one. What is only moved and asked about, as `carry` does, need not.
+pub trait Fill: Store {
+    /// Puts a comment last in a list. It is refused exactly where there is no room, and then nothing changes.
+    fn add(&mut self, spot: Spot, comment: u32) -> Result<(), Refusal>
+        ensures fills { Fills (Self.lists self.old) (Self.lists self.new) (Self.vacant self.old) (Self.vacant self.new) spot.side spot.offset comment result }
+        ensures same { OnErr result (self.new ≡ self.old) };
 }

@@ -2,7 +2,7 @@
 use crate::pairs::moves_of;
 use crate::rule::{Comment, Rule};
 use crate::show::{Shown, show_answer, show_fault, show_lists, show_move, show_rule};
-use comments::{Move, Place, Side, Spot, Store, carry_both, same_lists};
+use comments::{Fill, Move, Place, Side, Spot, carry_both, same_lists};
 use register::{Entry, Register};
 use spliced::{Head, Note, Spliced};
 use std::io;

@@ -12,7 +12,7 @@ use crate::entry::Entry;
 use crate::joining::{Joining, rejoin_each};
 use crate::pass::{comment_in, count_in};
 use crate::register::Register;
-use comments::{Side, Spot, Store};
+use comments::{Fill, Side, Spot, Store};
 use refusal::Refusal;
 
 impl<'a> Register<'a> {
@@ -49,26 +49,6 @@ impl<'a> Store for Register<'a> {
 
     ghost vacant = { λ r. spare_of r };
 
-    /// Puts a comment last in a list. It is refused exactly where no record is spare, and then nothing changes.
-    fn add(&mut self, spot: Spot, comment: u32) -> Result<(), Refusal>
-        ensures fills { Fills (lists_of self.old) (lists_of self.new) (spare_of self.old) (spare_of self.new) spot.side spot.offset comment result }
-        ensures same { OnErr result (self.new ≡ self.old) }
-        ensures records { (i : ℕ) (d : Entry) → (i ≢ self.old.used) → slice_index_or self.new.slots.now i d ≡ slice_index_or self.old.slots.now i d }
-        ensures lender { SameLoan self.old.slots self.new.slots }
-    {
-        if self.spare() == 0 {
-            return Err(Refusal::TooFewRecords { needed: 1 });
-        }
-        let rank = count_in(self.entries(), spot);
-        self.slots[self.used] = Entry {
-            comment,
-            spot,
-            rank,
-        };
-        self.used += 1;
-        Ok(())
-    }
-
     /// The records that are not yet entries stay as they are.
     fn move_list(&mut self, side: Side, from: u32, to: u32)
         ensures moved { (at : Side) (k : ℕ) → lists_of self.new at k ≡ shifted side (lists_of self.old) from to at k }
@@ -91,5 +71,27 @@ impl<'a> Store for Register<'a> {
 
     fn comment(&self, spot: Spot, rank: usize) -> Option<u32> {
         comment_in(self.entries(), spot, rank)
+    }
+}
+
+impl<'a> Fill for Register<'a> {
+    /// Puts a comment last in a list. It is refused exactly where no record is spare, and then nothing changes.
+    fn add(&mut self, spot: Spot, comment: u32) -> Result<(), Refusal>
+        ensures fills { Fills (lists_of self.old) (lists_of self.new) (spare_of self.old) (spare_of self.new) spot.side spot.offset comment result }
+        ensures same { OnErr result (self.new ≡ self.old) }
+        ensures records { (i : ℕ) (d : Entry) → (i ≢ self.old.used) → slice_index_or self.new.slots.now i d ≡ slice_index_or self.old.slots.now i d }
+        ensures lender { SameLoan self.old.slots self.new.slots }
+    {
+        if self.spare() == 0 {
+            return Err(Refusal::TooFewRecords { needed: 1 });
+        }
+        let rank = count_in(self.entries(), spot);
+        self.slots[self.used] = Entry {
+            comment,
+            spot,
+            rank,
+        };
+        self.used += 1;
+        Ok(())
     }
 }

@@ -9,43 +9,13 @@ ghost use Rattle.spliced.specs.Store.{lists_in, spare};
 
 use super::Spliced;
 use crate::heads::NoteList;
-use comments::{Side, Spot, Store};
+use comments::{Fill, Side, Spot, Store};
 use refusal::Refusal;
 
 impl<'a> Store for Spliced<'a> {
     ghost lists = { lists_in };
 
     ghost vacant = { spare };
-
-    #[tactic(auto, using(crate::proofs::Turns::next_note, crate::proofs::Turns::next_head, crate::proofs::Turns::has_room, crate::proofs::Turns::beyond_written))]
-    fn add(&mut self, spot: Spot, comment: u32) -> Result<(), Refusal>
-        ensures fills { Fills (lists_in self.old) (lists_in self.new) (spare self.old) (spare self.new) spot.side spot.offset comment result }
-        ensures same { OnErr result (self.new ≡ self.old) }
-        ensures beyond { (Beyond self.old.notes.slots.now self.new.notes.slots.now) × (Beyond self.old.heads.slots.now self.new.heads.slots.now) }
-        ensures lender { SameLoan self.old.notes.slots self.new.notes.slots × SameLoan self.old.heads.slots self.new.heads.slots }
-    {
-        if self.spare() == 0 {
-            return Err(Refusal::TooFewRecords { needed: 1 });
-        }
-        self.held += 1;
-        let note = self.notes.draw(comment);
-        match self.heads.find(spot) {
-            Some(found) => {
-                self.notes.join(found.list.last, note);
-                let list = NoteList {
-                    last: note,
-                    ..found.list
-                };
-                self.heads.hold(found.head, list);
-            }
-            None => self.heads.draw(NoteList {
-                spot,
-                first: note,
-                last: note,
-            }),
-        }
-        Ok(())
-    }
 
     fn move_list(&mut self, side: Side, from: u32, to: u32)
         ensures moved { (at : Side) (k : ℕ) → lists_in self.new at k ≡ shifted side (lists_in self.old) from to at k }
@@ -90,6 +60,38 @@ impl<'a> Store for Spliced<'a> {
     fn comment(&self, spot: Spot, rank: usize) -> Option<u32> {
         let found = self.heads.find(spot)?;
         self.notes.comment(found.list.first, rank)
+    }
+}
+
+impl<'a> Fill for Spliced<'a> {
+    #[tactic(auto, using(crate::proofs::Turns::next_note, crate::proofs::Turns::next_head, crate::proofs::Turns::has_room, crate::proofs::Turns::beyond_written))]
+    fn add(&mut self, spot: Spot, comment: u32) -> Result<(), Refusal>
+        ensures fills { Fills (lists_in self.old) (lists_in self.new) (spare self.old) (spare self.new) spot.side spot.offset comment result }
+        ensures same { OnErr result (self.new ≡ self.old) }
+        ensures beyond { (Beyond self.old.notes.slots.now self.new.notes.slots.now) × (Beyond self.old.heads.slots.now self.new.heads.slots.now) }
+        ensures lender { SameLoan self.old.notes.slots self.new.notes.slots × SameLoan self.old.heads.slots self.new.heads.slots }
+    {
+        if self.spare() == 0 {
+            return Err(Refusal::TooFewRecords { needed: 1 });
+        }
+        self.held += 1;
+        let note = self.notes.draw(comment);
+        match self.heads.find(spot) {
+            Some(found) => {
+                self.notes.join(found.list.last, note);
+                let list = NoteList {
+                    last: note,
+                    ..found.list
+                };
+                self.heads.hold(found.head, list);
+            }
+            None => self.heads.draw(NoteList {
+                spot,
+                first: note,
+                last: note,
+            }),
+        }
+        Ok(())
     }
 }
 

@@ -8,7 +8,7 @@ use Rattle.register.specs.declared.register.Register.{Register}
 use Rattle.register.specs.Listing.{here, listing, Sound}
 use Rattle.register.specs.Held.{entries_of, lists_of, spare_of}
 use Rattle.register.proofs.Pushed.{Next, sound_push, listing_push}
-use Rattle.register.proofs.store.RegisterStore.add.Goals as goal
+use Rattle.register.proofs.store.RegisterFill.add.Goals as goal
 
 -- The records with one entry more, which has the next rank of its list.
 module _

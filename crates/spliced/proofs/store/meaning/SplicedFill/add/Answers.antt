@@ -1,8 +1,8 @@
 use Rattle.std.proofs.Common.{rules, refl, ◌∙◌}
 use Rattle.spliced.proofs.Asking.{laid_from}
 use Rattle.spliced.proofs.Turns.{has_room, last_written, grow, begin, less_room, Added}
-use Rattle.spliced.proofs.store.meaning.SplicedStore.add.Goals.{After-hold, After-draw}
-use Rattle.spliced.proofs.store.meaning.SplicedStore.add.Goals as goal
+use Rattle.spliced.proofs.store.meaning.SplicedFill.add.Goals.{After-hold, After-draw}
+use Rattle.spliced.proofs.store.meaning.SplicedFill.add.Goals as goal
 
 pub join-requires : goal.join-requires
 join-requires c =
