@@ -1,5 +1,8 @@
 // The operators that are signs: those that compute, and those that assign.
 
+ghost use Rattle.std.specs.Prelude.{◌≡◌, eqb};
+ghost use Rattle.token.specs.Same.{operator_rank, assign_rank};
+
 /// A sign that computes from one operand or two. `+` and `-` do either: the token is the same.
 #[derive(Clone, Copy, PartialEq, Eq, Debug)]
 pub enum Operator {
@@ -59,6 +62,15 @@ pub enum Operator {
     Coalesce,
 }
 
+impl Operator {
+    /// Whether this is the operator `other`: what `==` answers, by the definition that contracts cite.
+    pub fn same(self, other: Operator) -> bool
+        ensures { result ≡ eqb (operator_rank self) (operator_rank other) }
+    {
+        self == other
+    }
+}
+
 /// A sign that assigns: `=`, or a binary operator with `=` behind it. Comparisons have no such form, so this is an
 /// enum of its own and not an `Operator` with a flag: `====` cannot be written.
 #[derive(Clone, Copy, PartialEq, Eq, Debug)]
@@ -95,4 +107,13 @@ pub enum AssignOperator {
     OrAssign,
     /// `??=`
     CoalesceAssign,
+}
+
+impl AssignOperator {
+    /// Whether this is the operator `other`: what `==` answers, by the definition that contracts cite.
+    pub fn same(self, other: AssignOperator) -> bool
+        ensures { result ≡ eqb (assign_rank self) (assign_rank other) }
+    {
+        self == other
+    }
 }
