@@ -170,5 +170,6 @@ module _ {K : Type 0} (ts : List Token) (R : K → K → Children → Forest →
       let (u, e, d) = good_derives ts w.tree a_script (subst T (sym (w.shape.fit ∙ fit)) tt) (sym v) in
       subst (λ (t : Tree). claim.Reads ts t) (w.only u d) d
 
-  pub scripted : f.good ≡ true → f.below.depth < 512 → Scripted ts R e0 x0 f
-  scripted fit un = record { tree = w.tree; derived = derived fit; shape = w.shape; nests = omega (arith, w.shape.nests); few = w.few; row = w.row; done = w.done }
+  -- the same, answered without the tokens
+  pub scripted : (g : Found) → Shape w.tree g → g.below.records ≡ f.below.records → g.slot ≡ f.slot → g.ahead.now ≡ [] → f.good ≡ true → f.below.depth < 512 → Scripted ts R e0 x0 g
+  scripted g s n k d fit un = record { tree = w.tree; derived = derived fit; shape = s; nests = omega (arith, w.shape.nests); few = omega (arith, n, w.few); row = rw k w.row; done = d }

@@ -20,12 +20,17 @@ use Rattle.reader.specs.declared.unread.Unread.{Unread}
 use Rattle.reader.specs.declared.unread.Unread.TheVariants.{NoDerivation, TooDeep}
 use Rattle.grammar.proofs.Written.{bind_inv}
 use Rattle.reader.proofs.Fuel.{raise_p, grow}
+use Rattle.reader.proofs.Width.{depth_size}
 use Rattle.reader.proofs.Eats.{own_true, frame_eats}
 use Rattle.std.proofs.Math.Bool.{and-true}
 
 bad_up : (e : Unread) (i room d c : ℕ) → 0 < room → i ≡ room - 1 → Bad e i d → d + 1 ≤ c → Bad e room c
 bad_up NoDerivation i room d c p q h le = h
 bad_up TooDeep i room d c p q h le = omega arith
+
+-- what is read nests no deeper than it has records
+pub nested : (t : Tree) (f : Found) → Shape t f → f.below.depth ≤ f.below.records
+nested t f s = omega (arith, s.nests, s.records, depth_size t)
 
 -- every tree has a record
 some_deep : (t : Tree) → 0 < depth t

@@ -1,13 +1,13 @@
 // How many records stand below another, and how deep they nest.
 
-ghost use Rattle.std.specs.Prelude.{◌≡◌, ◌+◌, ◌^◌, ◌<◌, ◌≤◌, max};
+ghost use Rattle.std.specs.Prelude.{◌≡◌, ◌+◌, ◌^◌, ◌<◌, max};
 
-/// A number of records and how deep they nest.
+/// A number of records and how deep they nest. Of any value of it nothing is asked: that a tree nests no deeper than it has
+/// records is a law of trees, and shown where it is needed.
 #[derive(Clone, Copy, PartialEq, Eq, Debug)]
 pub struct Extent {
     pub records: usize,
     pub depth: usize,
-    ghost nests: { depth ≤ records },
 }
 
 impl Extent {
@@ -18,7 +18,8 @@ impl Extent {
 
     /// These and a record above them all.
     pub fn raised(self) -> Extent
-        requires { self.records + 1 < 2 ^ 64 }
+        requires few { self.records + 1 < 2 ^ 64 }
+        requires nests { self.depth + 1 < 2 ^ 64 }
         ensures records { result.records ≡ self.records + 1 }
         ensures depth { result.depth ≡ self.depth + 1 }
     {

@@ -21,7 +21,8 @@ fn lo_of(ahead: &[Token]) -> u32
 impl<'a> Found<'a> {
     /// The parts of a record whose first child this is.
     pub fn alone(self) -> Parts<'a>
-        requires { self.below.records + 1 < 2 ^ 64 }
+        requires few { self.below.records + 1 < 2 ^ 64 }
+        requires nests { self.below.depth + 1 < 2 ^ 64 }
         ensures { Alone self.entry result }
     {
         Parts {
@@ -70,7 +71,8 @@ impl<'a> Parts<'a> {
 
     /// The parts with one more child, which makes the row of them `row`.
     pub fn join(self, child: Found<'a>, row: Children) -> Parts<'a>
-        requires { self.below.records + child.below.records + 1 < 2 ^ 64 }
+        requires few { self.below.records + child.below.records + 1 < 2 ^ 64 }
+        requires nests { child.below.depth + 1 < 2 ^ 64 }
         ensures { Joined self.entry child.entry row result }
     {
         Parts {

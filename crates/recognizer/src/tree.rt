@@ -132,7 +132,7 @@ fn whole<'a, S: Sink>(tokens: &'a [Token], sink: &mut S) -> Result<Found<'a>, Un
 
 /// The script that the tokens derive. It goes into the sink. What stands where is decided by the next token alone, so the
 /// tree is read first, and whether each child may stand where it stands is asked at the end.
-pub fn script<'a, S: Sink>(tokens: &'a [Token], sink: &mut S) -> Result<Found<'a>, Unread>
+pub fn script<S: Sink>(tokens: &[Token], sink: &mut S) -> Result<Found<'static>, Unread>
     ensures { MatchResult result (λ f. Scripted tokens.now S.rows sink.old sink.new f) (λ e. NotScript tokens.now e) }
 {
     let found = whole(tokens, sink)?;
@@ -142,5 +142,14 @@ pub fn script<'a, S: Sink>(tokens: &'a [Token], sink: &mut S) -> Result<Found<'a
     if found.below.depth >= DEEPEST {
         return Err(Unread::TooDeep);
     }
-    Ok(found)
+    // Nothing is ahead of a script, so what is answered need not borrow the tokens.
+    Ok(Found {
+        traits: found.traits,
+        good: found.good,
+        lo: found.lo,
+        hi: found.hi,
+        ahead: &[],
+        below: found.below,
+        slot: found.slot,
+    })
 }
