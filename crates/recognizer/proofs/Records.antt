@@ -139,7 +139,7 @@ bad_le TooDeep i d b h le = omega arith
 
 module _ {K : Type 0} (R : K → K → Children → Forest → Type 0) (b : Bool) where
   pub carried_none : (e0 : K) (s : Do) (p : Parts) → Carried b s p R e0 e0 s p
-  carried_none e0 s p = record { rows = λ z ws h. subst (λ (us : Forest). R e0 z p.row us) (sym (join_nil ws)) h; few = omega arith; fewer = omega arith; lo = refl; run = (nil, λ ws h. subst (λ (us : Forest). Holds us p) (sym (join_nil ws)) h, (0, λ m le. (m, omega arith, graft_nil (perform m b s p.hi p.ahead.now)))) }
+  carried_none e0 s p = record { rows = λ z ws h. subst (λ (us : Forest). R e0 z p.row us) (sym (join_nil ws)) h; few = omega arith; fewer = omega arith; nests = λ o. o; lo = refl; run = (nil, λ ws h. subst (λ (us : Forest). Holds us p) (sym (join_nil ws)) h, (0, λ m le. (m, omega arith, graft_nil (perform m b s p.hi p.ahead.now)))) }
 
   module _ (s0 : Do) (p0 : Parts) (e0 m0 : K) (s : Do) (p : Parts) (c : Carried b s0 p0 R e0 m0 s p) where
     pub carried_eat : (k : Code) (s2 : Do) (q : Parts) → settle s p.ahead.now ≡ eat k s2 → Behind p k q → Carried b s0 p0 R e0 m0 s2 q
@@ -149,6 +149,7 @@ module _ {K : Type 0} (R : K → K → Children → Forest → Type 0) (b : Bool
         record {
           few = omega (arith, c.few, x.records, ap length v, own_one s);
           fewer = omega (arith, c.fewer, x.records, ap length v);
+          nests = λ o. omega (arith, c.nests o, x.records, x.nests);
           rows = λ z ws hw. subst (λ (r : Children). R m0 z r (ws ⊕ us)) (sym x.row) (c.rows z ws hw);
           lo = x.lo ∙ c.lo;
           run = (
@@ -166,6 +167,7 @@ module _ {K : Type 0} (R : K → K → Children → Forest → Type 0) (b : Bool
         record {
           few = omega (arith, c.few, x.few, j.records, ap length j.ahead, big);
           fewer = omega (arith, c.fewer, x.few, j.records, ap length j.ahead);
+          nests = λ o. omega (arith, c.nests o, x.nests, j.records, j.nests);
           rows = λ z ws hw. subst (λ (r : Children). R x2 z r (ws ⊕ (us ⊕ (t ▸ nil)))) (sym j.row) (subst (λ (vs : Forest). R x2 z r2 vs) (join_assoc ws us (t ▸ nil)) (pu.at z m0 (ws ⊕ us) t (c.rows z ws hw) sk));
           lo = j.lo ∙ c.lo;
           run = (
@@ -192,6 +194,7 @@ module _ {K : Type 0} (R : K → K → Children → Forest → Type 0) (b : Bool
         let is : perform n b s0 p0.hi p0.ahead.now ≡ some (ran f.traits.form us f.hi f.ahead.now) = y ∙ ap (graft us) (step_fin k0 b s p.hi p.ahead.now g e) ∙ rw (x.form, x.hi, x.ahead, join_nil us) refl in
         record {
           few = omega (arith, c.few, x.records, ap length x.ahead, big);
+          nests = λ o. omega (arith, c.nests o, x.records, x.nests);
           rows = λ z ws hw. rw (x.slot, x.form, x.lo, x.hi) (ne.at z (ws ⊕ us) (c.rows z ws hw));
           lo = x.lo ∙ c.lo;
           run = (

@@ -20,17 +20,12 @@ use Rattle.reader.specs.declared.unread.Unread.{Unread}
 use Rattle.reader.specs.declared.unread.Unread.TheVariants.{NoDerivation, TooDeep}
 use Rattle.grammar.proofs.Written.{bind_inv}
 use Rattle.reader.proofs.Fuel.{raise_p, grow}
-use Rattle.reader.proofs.Width.{depth_size}
 use Rattle.reader.proofs.Eats.{own_true, frame_eats}
 use Rattle.std.proofs.Math.Bool.{and-true}
 
 bad_up : (e : Unread) (i room d c : ℕ) → 0 < room → i ≡ room - 1 → Bad e i d → d + 1 ≤ c → Bad e room c
 bad_up NoDerivation i room d c p q h le = h
 bad_up TooDeep i room d c p q h le = omega arith
-
--- what is read nests no deeper than it has records
-pub nested : (t : Tree) (f : Found) → Shape t f → f.below.depth ≤ f.below.records
-nested t f s = omega (arith, s.nests, s.records, depth_size t)
 
 -- every tree has a record
 some_deep : (t : Tree) → 0 < depth t
@@ -116,6 +111,7 @@ module _ (ts : List Token) (b : Bool) (q : Goal) where
         record {
           rows = row_at R x0 e0 f (lo_of ts) us (sym (m.lo ∙ st.lo)) (m.rows e0 nil (subst (λ (r : Children). R e0 e0 r nil) (sym st.row) rn));
           few = omega (arith, m.few, st.records, ap length st.ahead, one);
+          nests = m.nests (omega (arith, st.records, st.nests));
           tree = (
             begun ts y,
             shape_node us f (lo_of ts) (sym (m.lo ∙ st.lo)) (h nil (holds_nil ts r0 p st)),
@@ -167,6 +163,7 @@ module _ (ts : List Token) (b : Bool) (q : Goal) where
           record {
             rows = row_at R x0 d0 f (head_of t).lo (t ▸ us) lo (m.rows d0 (t ▸ nil) (subst (λ (r : Children). R m0 d0 r (t ▸ nil)) (sym al.row) re.rows));
             few = omega (arith, re.few, m.few, al.records, ap length al.ahead, one);
+            nests = m.nests (omega (arith, al.records, al.nests, re.nests));
             tree = (
               grown_on t y,
               shape_node (t ▸ us) f (head_of t).lo lo (h (t ▸ nil) (holds_one t l p sh al)),
@@ -187,4 +184,4 @@ module _ (ts : List Token) (b : Bool) (q : Goal) where
   stopped R e0 x0 f re off =
       let (t, sh, (k, w)) = re.tree in
       let (n, le, e) = w (suc k) (omega arith) in
-      record { few = re.few; tree = (t, sh, (n, λ m l. raise_p n m b q ts (t, f.ahead.now) l (e ∙ loop_off k b q t f.ahead.now (sym (off (attr t) (sorted t f sh) (stands t f sh))))), re.rows) }
+      record { few = re.few; nests = re.nests; tree = (t, sh, (n, λ m l. raise_p n m b q ts (t, f.ahead.now) l (e ∙ loop_off k b q t f.ahead.now (sym (off (attr t) (sorted t f sh) (stands t f sh))))), re.rows) }

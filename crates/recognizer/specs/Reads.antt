@@ -92,10 +92,12 @@ pub record Shaped (us : Forest) (f : Found) : Type 0 where
 
 pub record Parsed {K : Type 0} (ks : List Token) (b : Bool) (q : Goal) (R : K → K → Children → Forest → Type 0) (e x : K) (f : Found) : Type 0 where
   pub few : f.below.records + length f.ahead.now < length ks
+  pub nests : f.below.depth ≤ f.below.records
   pub tree : (t : Tree) × Shape t f × Reads b q ks t f.ahead.now × R x e (single f.slot) (t ▸ nil)
 
 pub record Made {K : Type 0} (b : Bool) (s : Do) (p : Parts) (R : K → K → Children → Forest → Type 0) (e x : K) (f : Found) : Type 0 where
   pub few : f.below.records + own s + length f.ahead.now ≤ p.below.records + length p.ahead.now
+  pub nests : p.below.depth ≤ p.below.records → f.below.depth ≤ f.below.records
   pub lo : f.lo ≡ p.lo
   pub run : (us : Forest) × Runs b s p.hi p.ahead.now (ran f.traits.form us f.hi f.ahead.now) × ((ws : Forest) → Holds ws p → Shaped (ws ⊕ us) f)
   pub rows : (z : K) (ws : Forest) → R e z p.row ws → R x z (single f.slot) (node (head f.traits.form f.lo f.hi) (ws ⊕ run.0) ▸ nil)
@@ -107,6 +109,7 @@ NotMade b s p room e = (n : ℕ) (y : Ran) → perform n b s p.hi p.ahead.now �
 pub record Carried {K : Type 0} (b : Bool) (s0 : Do) (p0 : Parts) (R : K → K → Children → Forest → Type 0) (e x : K) (s : Do) (p : Parts) : Type 0 where
   pub few : p.below.records + own s0 + length p.ahead.now ≤ p0.below.records + length p0.ahead.now + own s
   pub fewer : p.below.records + length p.ahead.now ≤ p0.below.records + length p0.ahead.now
+  pub nests : p0.below.depth ≤ p0.below.records → p.below.depth ≤ p.below.records
   pub lo : p.lo ≡ p0.lo
   pub run : (us : Forest) × ((ws : Forest) → Holds ws p0 → Holds (ws ⊕ us) p) × ((k : ℕ) × ((m : ℕ) → k ≤ m → (n : ℕ) × (m ≤ n) × (perform n b s0 p0.hi p0.ahead.now ≡ graft us (perform m b s p.hi p.ahead.now))))
   pub rows : (z : K) (ws : Forest) → R e z p0.row ws → R x z p.row (ws ⊕ run.0)
@@ -114,6 +117,7 @@ pub record Carried {K : Type 0} (b : Bool) (s0 : Do) (p0 : Parts) (R : K → K �
 -- What the grammar's reader finds at ks is what it finds behind the tree so far.
 pub record Reached {K : Type 0} (ks : List Token) (b : Bool) (q : Goal) (R : K → K → Children → Forest → Type 0) (e x : K) (f : Found) : Type 0 where
   pub few : f.below.records + length f.ahead.now < length ks
+  pub nests : f.below.depth ≤ f.below.records
   pub tree : (t : Tree) × Shape t f × ((k : ℕ) × ((m : ℕ) → k ≤ m → (n : ℕ) × (m ≤ n) × (parse n b q ks ≡ loop m b q t f.ahead.now)))
   pub rows : R x e (single f.slot) (tree.0 ▸ nil)
 

@@ -2,7 +2,7 @@ use Rattle.std.proofs.Common.{◌<◌, sym, refl, arith}
 use Rattle.recognizer.proofs.Exits.{broke, lacked}
 use Rattle.reader.proofs.Eats.{prefix_eats}
 use Rattle.recognizer.proofs.Records.{carried_none, carried_eat, carried_read, made, not_eaten, not_read}
-use Rattle.recognizer.proofs.Trees.{nested, no_room, no_start, no_step, reached_first, reached_next, refused_first, refused_next, longer, stopped}
+use Rattle.recognizer.proofs.Trees.{no_room, no_start, no_step, reached_first, reached_next, refused_first, refused_next, longer, stopped}
 use Rattle.recognizer.proofs.tree.+record_tree.Goals as goal
 
 pub record-loop-form-init : goal.record-loop-form-init
@@ -23,7 +23,7 @@ record-returns-in_err-child-in-Read g t c = broke _ _ _ _ c.from_residual-in_err
 pub record-join-parts-requires : goal.record-join-parts-requires
 record-join-parts-requires g t c =
     let x = c.in_ok-child-in-Read.ensures in
-    record { few = omega (arith, c.requires, c.loop-form.invariant.fewer, x.few); nests = omega (arith, c.requires, c.loop-form.invariant.fewer, x.few, nested _ _ x.tree.1) }
+    record { few = omega (arith, c.requires, c.loop-form.invariant.fewer, x.few); nests = omega (arith, c.requires, c.loop-form.invariant.fewer, x.few, x.nests) }
 
 pub record-loop-form-preserved : goal.record-loop-form-preserved
 record-loop-form-preserved g t c = carried_read g.S.Sink.rows _ _ _ _ _ _ _ c.loop-form.invariant _ _ _ _ _ _ _ _ (sym c.in-Read.ensures) (rw c.allowed.ensures at c.in_ok-child-in-Read.ensures) c.push-row.ensures c.join-parts.ensures
@@ -44,7 +44,7 @@ pub tree-loop-goal-init : goal.tree-loop-goal-init
 tree-loop-goal-init g t c = reached_first _ _ _ _ _ _ c.start.ensures (rw c.in_ok-begun.ensures.ok_part at c.begin.ensures) g.S.Sink.rows _ _ _ (prefix_eats c.args.goal _) c.none-none.ensures c.in_ok-found.ensures
 
 pub tree-alone-requires : goal.tree-alone-requires
-tree-alone-requires g t c = let re = c.loop-goal.invariant in record { few = omega (arith, re.few); nests = omega (arith, re.few, nested _ _ re.tree.1) }
+tree-alone-requires g t c = let re = c.loop-goal.invariant in record { few = omega (arith, re.few); nests = omega (arith, re.few, re.nests) }
 
 pub tree-returns-in_err-found-2 : goal.tree-returns-in_err-found-2
 tree-returns-in_err-found-2 g t c = let lt : 0 < c.args.room = omega (arith, c.if-room-eq0.false) in broke _ _ _ _ c.from_residual-in_err-found-2.ensures.1 (refused_next _ _ _ g.S.Sink.rows _ _ _ c.loop-goal.invariant _ (rw (c.in_ok-rest.ensures.ok_part, c.turn_at.ensures, c.is_chain.ensures) at c.behind.ensures) c.loop-goal-test.ensures _ c.alone.ensures _ _ _ lt refl c.in_err-found-2.ensures)
