@@ -1,8 +1,8 @@
--- The steps of a pass over entries: one that counts, one that looks for the first that passes, and one that writes.
+-- The steps of a pass over entries: one that looks for the first that passes, and one that writes.
 use Rattle.std.proofs.Common.{◌≡◌, ℕ, ◌+◌, ◌-◌, ◌<◌, ◌≤◌, Bool, true, false, cond, List, ◌∷◌, ◌++◌, map, length, get_or, take, drop, set, count_by, sym, ap, ◌∙◌, arith}
 use Rattle.std.proofs.lemmas.List.Edits.{map_over_more}
-use Rattle.std.proofs.lemmas.List.{append-nil, length-map, length-take, length-take-le, take_all, drop_all, drop_more, get_or_default, get_or-append_right, get_or-drop}
-use Rattle.std.proofs.lemmas.List.Sums.{sum_by-cons, count_by-le-length}
+use Rattle.std.proofs.lemmas.List.{append-nil, length-map, length-take-le, take_all, drop_all, drop_more, get_or_default, get_or-append_right, get_or-drop}
+use Rattle.std.proofs.lemmas.List.Sums.{sum_by-cons}
 use Rattle.std.proofs.lemmas.Bool.{cond-true, cond-false}
 use Rattle.std.proofs.Common.{refl, subst, zero, suc, Option, None, Some, Bor}
 use Rattle.std.specs.Prelude.{MatchOption}
@@ -15,13 +15,6 @@ use Rattle.register.specs.Listing.{ranked, comment_at}
 
 pub count_by_cons : {X : Type 0} (p : X → Bool) (x : X) (xs : List X) → count_by p (x ∷ xs) ≡ cond (p x) 1 0 + count_by p xs
 count_by_cons p x xs = sum_by-cons (λ y. cond (p y) 1 0) x xs
-
--- no more are counted than were passed
-pub counted_below : {X : Type 0} (p : X → Bool) (xs : List X) (i n : ℕ) → n ≡ count_by p (take i xs) → n ≤ i
-counted_below p xs i n e = omega (arith, count_by-le-length p (take i xs), length-take i xs)
-
-pub counted_all : {X : Type 0} (p : X → Bool) (xs : List X) (i n : ℕ) → length xs ≤ i → n ≡ count_by p (take i xs) → n ≡ count_by p xs
-counted_all p xs i n l e = e ∙ ap (count_by p) (take_all i xs l)
 
 -- what a pass reads where there is no entry
 abbrev pub blank : Entry

@@ -9,14 +9,8 @@ use comments::Spot;
 pub fn count_in(entries: &[Entry], spot: Spot) -> usize
     ensures { result ≡ count_by (here spot.side spot.offset) entries.now }
 {
-    // No `filter` and `count`: where most entries are in the list, that took up to 2.4 times as long.
-    let mut n = 0;
-    for e in entries {
-        if e.is_in(spot) {
-            n += 1;
-        }
-    }
-    n
+    // Tried: a `for` that counts. It takes half the time where all entries are in the list, and up to twice where few are.
+    entries.iter().filter(|e| e.is_in(spot)).count()
 }
 
 /// The comment of the entry that has a rank in a list.
